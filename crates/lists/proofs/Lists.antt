@@ -1,0 +1,35 @@
+-- Laws on lists that the logic's own library lacks. Assumes nothing.
+use mathlib.Core.Path.{_≡_, refl, ap}
+use mathlib.Core.List.{List, [], _∷_, _++_, map}
+use mathlib.Core.Bool.{Bool, true}
+use Prim.Native.Nat.{ℕ}
+use lib.ListN.{take, drop, take-append-drop}
+use Rattle.lists.specs.Lists.{Each}
+
+pub map-append {ℓ} : {A B : Type ℓ} (f : A → B) (l k : List A) → map f (l ++ k) ≡ map f l ++ map f k
+map-append f [] k = refl
+map-append f (a ∷ l) k = ap (λ (r : List _). f a ∷ r) (map-append f l k)
+
+pub append-none {ℓ} : {A : Type ℓ} (l : List A) → l ++ [] ≡ l
+append-none [] = refl
+append-none (a ∷ l) = ap (λ (r : List _). a ∷ r) (append-none l)
+
+-- A list is its part before a place, a stretch of n, and the rest.
+pub three-parts {ℓ} : {A : Type ℓ} (i n : ℕ) (l : List A) → take i l ++ (take n (drop i l) ++ drop n (drop i l)) ≡ l
+three-parts i n l = rw (take-append-drop n (drop i l), take-append-drop i l)
+
+module _ {A : Type 0} where
+  pub each-append : (P : A → Type 0) (l k : List A) → Each P l → Each P k → Each P (l ++ k)
+  unfolding Each
+  each-append P [] k h g = g
+  each-append P (a ∷ l) k h g = (h .0, each-append P l k (h .1) g)
+
+  pub each-map : (P Q : A → Type 0) (f : A → A) (l : List A) → ((a : A) → P a → Q (f a)) → Each P l → Each Q (map f l)
+  unfolding Each
+  each-map P Q f [] g h = tt
+  each-map P Q f (a ∷ l) g h = (g a (h .0), each-map P Q f l g (h .1))
+
+  pub each-imp : (P Q : A → Type 0) (l : List A) → ((a : A) → P a → Q a) → Each P l → Each Q l
+  unfolding Each
+  each-imp P Q [] f h = tt
+  each-imp P Q (a ∷ l) f h = (f a (h .0), each-imp P Q l f (h .1))

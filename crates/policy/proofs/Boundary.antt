@@ -1,0 +1,14 @@
+-- The boundary table's first twelve lines hold. Assumes nothing.
+use mathlib.Core.Path.{_≡_, refl}
+use Rattle.policy.specs.Fields.{highest}
+use Rattle.policy.specs.Ranges.{inside, fullOver}
+use Rattle.policy.specs.Cut.{pieces, cut, cutEach, group}
+use Rattle.policy.specs.Rules.{firstFrom}
+use Rattle.policy.specs.Move.{slots, boxesOf}
+use Rattle.policy.specs.Boundary.{boundaryTable, Holds, Decides, Right}
+use Rattle.policy.proofs.Cuts.{cut-itself}
+
+pub boundary-table-right : Right boundaryTable
+unfolding Right Holds Decides group cut pieces cutEach highest fullOver firstFrom inside slots boxesOf
+boundary-table-right =
+    (refl, (refl, (refl, (cut-itself, (refl, (refl, (refl, (refl, (refl, (((λ p h. rw h), ((λ p h. rw h), ((λ p h. rw h), tt))), (refl, (refl, tt))))))))))))

@@ -1,0 +1,91 @@
+-- `Box::is_full` meets its contract: the loop's invariant says what is left of the test of every field. Assumes nothing.
+use borrow.Author.Needs.{needs}
+use native.Mathlib.Omega.{arith}
+use mathlib.Core.Path.{_≡_, refl, _∙_}
+use Prim.Native.Nat.{_-_, _≤_}
+use lib.ListN.{length, drop}
+use Rattle.policy.specs.Fields.{fields, highest}
+use Rattle.policy.specs.Ranges.{fullRange, isFull}
+use Rattle.policy.specs.Values.{regionOf}
+use Rattle.policy.proofs.Values.{ranges-length, field-fails, field-passes, fields-done}
+use Rattle.policy.proofs.Box.is_full.Statement.{statement}
+use Rattle.policy.proofs.Box.is_full.Tie as tie
+use Rattle.policy.proofs.Box.is_full.Reads as reads
+use Rattle.policy.proofs.Box.is_full.Lts as lts
+
+abbrev Inv-loop : tie.InvT-loop
+Inv-loop self k₀ k =
+    (k ≤ fields) × (length (regionOf self) ≡ fields)
+    × (isFull highest (regionOf self) ≡ isFull (drop k highest) (drop k (regionOf self)))
+
+abbrev μ-loop : tie.MeasureT-loop
+μ-loop self k₀ k = fields - k
+
+loop-holds : tie.Need-loop-holds Inv-loop μ-loop
+loop-holds c =
+    let b = c .args .self in
+    let l : length (b .low) ≡ fields = search needs in
+    let h : length (b .high) ≡ fields = search needs in
+    (search needs, ranges-length (b .low) (b .high) (cc) ∙ l, refl)
+
+low-at-requires : tie.Need-low-at-requires Inv-loop μ-loop
+low-at-requires c κs = search needs
+
+high-at-requires : tie.Need-high-at-requires Inv-loop μ-loop
+high-at-requires c κs = search needs
+
+mul-is-full-range : tie.Need-mul-is-full-range Inv-loop μ-loop
+mul-is-full-range c = search needs
+
+array-read-is-full-range : tie.Need-array-read-is-full-range Inv-loop μ-loop
+array-read-is-full-range c = search needs
+
+is-full-range-requires : tie.Need-is-full-range-requires Inv-loop μ-loop
+is-full-range-requires c κs = search needs
+
+returns : tie.Need-returns Inv-loop μ-loop
+unfolding highest
+returns c =
+    let s = c .before .before .before .before .before .loop in
+    let b = regionOf (c .before .before .before .before .before .before .args .self) in
+    field-fails fullRange highest b (s .k) (s .inv .2) (omega arith) (omega arith) (c .before .before .before .low-at .ensures .0) (c .before .before .high-at .ensures .0) (c .before .is-full-range .ensures) (c .if1 .taken)
+
+add-k : tie.Need-add-k Inv-loop μ-loop
+add-k c = search needs
+
+loop-less : tie.Need-loop-less Inv-loop μ-loop
+loop-less c = search needs
+
+loop-again : tie.Need-loop-again Inv-loop μ-loop
+unfolding highest
+loop-again c =
+    let s = c .before .before .before .before .before .loop in
+    let b = regionOf (c .before .before .before .before .before .before .args .self) in (
+      omega arith,
+      s .inv .1,
+      field-passes fullRange highest b (s .k) (s .inv .2) (omega arith) (omega arith) (c .before .before .before .low-at .ensures .0) (c .before .before .high-at .ensures .0) (c .before .is-full-range .ensures) (c .if1 .left),
+    )
+
+returns-2 : tie.Need-returns-2 Inv-loop μ-loop
+unfolding highest
+returns-2 c =
+    let s = c .before .loop in
+    fields-done fullRange highest (regionOf (c .before .before .args .self)) (s .k) (s .inv .2) (omega arith) (omega arith)
+
+pub is-full-spec : {M : Type 1} → statement M
+is-full-spec =
+    tie.close
+    (tie.spec
+    Inv-loop
+    μ-loop
+    loop-holds
+    low-at-requires
+    high-at-requires
+    mul-is-full-range
+    array-read-is-full-range
+    is-full-range-requires
+    returns
+    add-k
+    loop-less
+    loop-again
+    returns-2)

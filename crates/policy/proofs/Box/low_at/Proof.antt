@@ -1,0 +1,28 @@
+use borrow.Author.Needs.{needs}
+use lib.ListN.{length}
+use mathlib.Core.Path.{_≡_, ap, sym, _∙_}
+use Rattle.policy.specs.Ranges.{Range}
+use Rattle.policy.proofs.Values.{ranges-at, ranges-length}
+use Rattle.policy.specs.Fields.{fields}
+use Rattle.policy.proofs.Box.low_at.Statement.{statement}
+use Rattle.policy.proofs.Box.low_at.Tie as tie
+use Rattle.policy.proofs.Box.low_at.Reads as reads
+use Rattle.policy.proofs.Box.low_at.Lts as lts
+
+mul-result : tie.Need-mul-result
+mul-result c = search needs
+
+array-read-result : tie.Need-array-read-result
+array-read-result c = search needs
+
+returns : tie.Need-returns
+returns c =
+    let a = c .before .args in
+    let l : length (a .self .low) ≡ fields = search needs in
+    let h : length (a .self .high) ≡ fields = search needs in (
+      ap (λ (r : Range). r .low) (sym (ranges-at (a .self .low) (a .self .high) (a .k) (cc))),
+      ranges-length (a .self .low) (a .self .high) (cc) ∙ l,
+    )
+
+pub low-at-spec : {M : Type 1} → statement M
+low-at-spec = tie.close (tie.spec mul-result array-read-result returns)

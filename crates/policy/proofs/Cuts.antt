@@ -1,0 +1,305 @@
+-- The facts of a cut, once over the number of fields: each packet of d that is not in a is in exactly one piece, every piece
+-- is never empty and lies in d, and there are at most two for each field. Assumes nothing.
+use mathlib.Core.Path.{_≡_, refl, ap, sym, _∙_}
+use mathlib.Core.List.{List, [], _∷_, _++_, map}
+use mathlib.Core.Bool.{Bool, true, false, cond, not, _&&_, true≢false}
+use mathlib.Core.Logic.{_⊎_, inl, inr, ⊎-elim}
+use Prim.Native.Nat.{ℕ, suc, _+_, _-_, _*_, _≤_, _<_, min, max}
+use native.Mathlib.Omega.{arith}
+use lib.Dec.{leb, ltb}
+use lib.ListN.{length, length-append, length-map}
+use borrow.Author.Tests.{ltb-true, leb-true, leb-false, le-leb, lt-ltb, le-ltb, not-true}
+use Rattle.lists.specs.Lists.{Each}
+use Rattle.lists.proofs.Tests.{and-true, and-both, bool-eq}
+use Rattle.lists.proofs.Lists.{each-append, each-map}
+use Rattle.policy.specs.Ranges.{Range, range, Region, Packet, within, inside, Whole, Within}
+use Rattle.policy.specs.Demands.{Piece}
+use Rattle.policy.specs.Cut.{meets, lowPart, highPart, shared, after, before, pieces, cut}
+
+-- Bool as a number, and how many boxes of a list have a packet
+abbrev pub one : Bool → ℕ
+one true = 1
+one false = 0
+
+unfoldable pub hits : Packet → List Region → ℕ
+hits p [] = 0
+hits p (b ∷ bs) = one (inside p b) + hits p bs
+
+-- two tests that exclude each other and together are a third
+one-and-one : (u v w : Bool) → (u ≡ true → v ≡ true → ⊥) → (w ≡ true → (u ≡ true) ⊎ (v ≡ true)) → (u ≡ true → w ≡ true) → (v ≡ true → w ≡ true) → one u + one v ≡ one w
+one-and-one true true w n s f g = absurd (n refl refl)
+one-and-one true false true n s f g = refl
+one-and-one true false false n s f g = ap one (sym (f refl))
+one-and-one false true true n s f g = refl
+one-and-one false true false n s f g = ap one (sym (g refl))
+one-and-one false false true n s f g = ⊎-elim (λ h. ap one h) (λ h. ap one h) (s refl)
+one-and-one false false false n s f g = refl
+
+-- a value in a range
+pub within-fact : (x : ℕ) (r : Range) → within x r ≡ true → (r .low ≤ x) × (x ≤ r .high)
+within-fact x r h =
+    let w : (leb (r .low) x ≡ true) × (leb x (r .high) ≡ true) = and-true _ _ h in
+    (leb-true _ _ (w .0), leb-true _ _ (w .1))
+
+pub within-true : (x : ℕ) (r : Range) → r .low ≤ x → x ≤ r .high → within x r ≡ true
+within-true x r h k = and-both _ _ (le-leb _ _ h) (le-leb _ _ k)
+
+pub within-not : (x : ℕ) (r : Range) → within x r ≡ false → (x < r .low) ⊎ (r .high < x)
+within-not x r h = go (leb (r .low) x) refl (leb x (r .high)) refl
+  where
+    go : (b : Bool) → leb (r .low) x ≡ b → (c : Bool) → leb x (r .high) ≡ c → (x < r .low) ⊎ (r .high < x)
+    go false e c f = inl (leb-false _ _ e)
+    go true e false f = inr (leb-false _ _ f)
+    go true e true f = let z : true ≡ false = sym (and-both _ _ e f) ∙ h in let z′ : _≡_ {A = ℕ} 0 1 = cc in inl (omega arith)
+
+-- how often a list of ranges has a value; one field of a cut
+sums : ℕ → List Range → ℕ
+sums x [] = 0
+sums x (r ∷ rs) = one (within x r) + sums x rs
+
+one-if : (x : ℕ) (t : Bool) (r : Range) → sums x (cond t (r ∷ []) []) ≡ one (t && within x r)
+unfolding sums
+one-if x true r = omega arith
+one-if x false r = refl
+
+sums-append : (x : ℕ) (l k : List Range) → sums x (l ++ k) ≡ sums x l + sums x k
+unfolding sums
+sums-append x [] k = omega arith
+sums-append x (r ∷ l) k = let h = sums-append x l k in omega arith
+
+-- a part that is there if a < b
+part-fact : (a b x : ℕ) (r : Range) → (ltb a b && within x r) ≡ true → (a < b) × (r .low ≤ x) × (x ≤ r .high)
+part-fact a b x r h =
+    let w = and-true (ltb a b) (within x r) h in
+    let f = within-fact x r (w .1) in
+    (ltb-true _ _ (w .0), f .0, f .1)
+
+part-true : (a b x : ℕ) (r : Range) → a < b → r .low ≤ x → x ≤ r .high → (ltb a b && within x r) ≡ true
+part-true a b x r t h k = and-both _ _ (lt-ltb _ _ t) (within-true x r h k)
+
+-- in r and not in s
+rest-fact : (x : ℕ) (r s : Range) → (within x r && not (within x s)) ≡ true → ((r .low ≤ x) × (x ≤ r .high)) × ((x < s .low) ⊎ (s .high < x))
+rest-fact x r s h =
+    let w = and-true (within x r) (not (within x s)) h in
+    (within-fact x r (w .0), within-not x s (not-true _ (w .1)))
+
+rest-true : (x : ℕ) (r s : Range) → r .low ≤ x → x ≤ r .high → (x < s .low) ⊎ (s .high < x) → (within x r && not (within x s)) ≡ true
+rest-true x r s h k o = and-both _ _ (within-true x r h k) (go (within x s) refl)
+  where
+    go : (b : Bool) → within x s ≡ b → not b ≡ true
+    go false e = refl
+    go true e = let f = within-fact x s e in ⊎-elim (λ h. absurd (omega arith)) (λ h. absurd (omega arith)) o
+
+pub meets-fact : (r s : Range) → meets r s ≡ true → (r .low ≤ s .high) × (s .low ≤ r .high)
+meets-fact r s m =
+    let w = and-true (leb (r .low) (s .high)) (leb (s .low) (r .high)) m in
+    (leb-true _ _ (w .0), leb-true _ _ (w .1))
+
+-- where r and s meet, each value is once in the low part, the high part or the shared range if it is in r
+module _ (x : ℕ) (r s : Range) (m : meets r s ≡ true) (ok : s .low ≤ s .high) where
+  shared-field : within x (shared r s) ≡ (within x r && within x s)
+  shared-field = bool-eq _ _
+      (λ h. let f = within-fact x (shared r s) h in and-both _ _ (within-true x r (omega arith) (omega arith)) (within-true x s (omega arith) (omega arith)))
+      (λ h. let g = and-true _ _ h in let f = within-fact x r (g .0) in let f′ = within-fact x s (g .1) in within-true x (shared r s) (omega arith) (omega arith))
+
+  parts-field : sums x (lowPart r s) + sums x (highPart r s) ≡ one (within x r && not (within x s))
+  parts-field =
+      let lr : Range = range (r .low) (s .low - 1) in
+      let hr : Range = range (s .high + 1) (r .high) in
+      let met = meets-fact r s m in
+      rw (one-if, one-if)
+      (one-and-one (ltb (r .low) (s .low) && within x lr) (ltb (s .high) (r .high) && within x hr) (within x r && not (within x s))
+      (λ h k. let f = part-fact (r .low) (s .low) x lr h in let g = part-fact (s .high) (r .high) x hr k in omega arith)
+      (λ h. let f = rest-fact x r s h in
+      ⊎-elim
+      (λ k. inl (part-true (r .low) (s .low) x lr (omega arith) (omega arith) (omega arith)))
+      (λ k. inr (part-true (s .high) (r .high) x hr (omega arith) (omega arith) (omega arith)))
+      (f .1))
+      (λ h. let f = part-fact (r .low) (s .low) x lr h in rest-true x r s (omega arith) (omega arith) (inl (omega arith)))
+      (λ h. let f = part-fact (s .high) (r .high) x hr h in rest-true x r s (omega arith) (omega arith) (inr (omega arith))))
+
+-- counting through lists of boxes
+pub hits-append : (p : Packet) (l k : List Region) → hits p (l ++ k) ≡ hits p l + hits p k
+unfolding hits
+hits-append p [] k = omega arith
+hits-append p (b ∷ l) k = let h = hits-append p l k in omega arith
+
+cond-zero : (u : Bool) → _≡_ {A = ℕ} 0 (cond u 0 0)
+cond-zero true = refl
+cond-zero false = refl
+
+-- boxes that begin with one range, and boxes that end alike
+hits-after : (x : ℕ) (p : Packet) (r : Range) (l : List Region) → hits (x ∷ p) (map (after r) l) ≡ cond (within x r) (hits p l) 0
+unfolding hits inside
+hits-after x p r [] = cond-zero (within x r)
+hits-after x p r (b ∷ l) = rw (hits-after x p r l) (go (within x r) (inside p b) (hits p l))
+  where
+    go : (u v : Bool) (n : ℕ) → one (u && v) + cond u n 0 ≡ cond u (one v + n) 0
+    go true v n = refl
+    go false v n = refl
+
+hits-before : (x : ℕ) (p : Packet) (d : Region) (l : List Range) → hits (x ∷ p) (map (before d) l) ≡ cond (inside p d) (sums x l) 0
+unfolding hits inside sums
+hits-before x p d [] = cond-zero (inside p d)
+hits-before x p d (r ∷ l) = rw (hits-before x p d l) (go (within x r) (inside p d) (sums x l))
+  where
+    go : (u v : Bool) (n : ℕ) → one (u && v) + cond v n 0 ≡ cond v (one u + n) 0
+    go true true n = refl
+    go true false n = refl
+    go false true n = refl
+    go false false n = refl
+
+hits-none-after : (r : Range) (l : List Region) → hits [] (map (after r) l) ≡ 0
+unfolding hits inside
+hits-none-after r [] = refl
+hits-none-after r (b ∷ l) = rw (hits-none-after r l)
+
+hits-none-before : (d : Region) (l : List Range) → hits [] (map (before d) l) ≡ 0
+unfolding hits inside
+hits-none-before d [] = refl
+hits-none-before d (r ∷ l) = rw (hits-none-before d l)
+
+-- the parts of a field and what is left of the later fields, put together
+join : (wr ws ip ia : Bool) (m n : ℕ) → m + n ≡ one (wr && not ws)
+    → cond ip m 0 + (cond ip n 0 + cond (wr && ws) (one (ip && not ia)) 0) ≡ one (wr && ip && not (ws && ia))
+join true true true true m n h = omega arith
+join true true true false m n h = omega arith
+join true true false true m n h = omega arith
+join true true false false m n h = omega arith
+join true false true true m n h = omega arith
+join true false true false m n h = omega arith
+join true false false true m n h = omega arith
+join true false false false m n h = omega arith
+join false true true true m n h = omega arith
+join false true true false m n h = omega arith
+join false true false true m n h = omega arith
+join false true false false m n h = omega arith
+join false false true true m n h = omega arith
+join false false true false m n h = omega arith
+join false false false true m n h = omega arith
+join false false false false m n h = omega arith
+
+alone : (wr ws ip ia : Bool) → (wr ≡ true → ws ≡ true → ⊥) → one (wr && ip) + 0 ≡ one (wr && ip && not (ws && ia))
+alone false ws ip ia h = refl
+alone true true ip ia h = absurd (h refl refl)
+alone true false false ia h = refl
+alone true false true ia h = refl
+
+apart-field : (x : ℕ) (r s : Range) → meets r s ≡ false → within x r ≡ true → within x s ≡ true → ⊥
+apart-field x r s e h k =
+    let f = within-fact x r h in
+    let g = within-fact x s k in
+    let z : true ≡ false = sym (and-both (leb (r .low) (s .high)) (leb (s .low) (r .high)) (le-leb (r .low) (s .high) (omega arith)) (le-leb (s .low) (r .high) (omega arith))) ∙ e in
+    true≢false z
+
+and-id : (b : Bool) → one b + 0 ≡ one (b && true)
+and-id true = refl
+and-id false = refl
+
+-- a packet is in exactly one piece if it is in d and not in a, and in none otherwise
+pieces-hits : (p : Packet) (d a : Region) → Whole a → hits p (pieces d a) ≡ one (inside p d && not (inside p a))
+unfolding hits inside pieces Whole
+pieces-hits [] [] [] w = refl
+pieces-hits (x ∷ p) [] [] w = refl
+pieces-hits [] [] (s ∷ a) w = refl
+pieces-hits (x ∷ p) [] (s ∷ a) w = refl
+pieces-hits [] (r ∷ d) [] w = refl
+pieces-hits (x ∷ p) (r ∷ d) [] w = and-id (within x r && inside p d)
+pieces-hits [] (r ∷ d) (s ∷ a) w = go (meets r s)
+  where
+    go : (m : Bool) → hits [] (cond m (map (before d) (lowPart r s) ++ (map (before d) (highPart r s) ++ map (after (shared r s)) (pieces d a))) ((r ∷ d) ∷ [])) ≡ 0
+    go false = refl
+    go true = simp (hits-append, hits-none-before, hits-none-after)
+pieces-hits (x ∷ p) (r ∷ d) (s ∷ a) w = go (meets r s) refl (pieces-hits p d a (w .1))
+  where
+    go : (m : Bool) → meets r s ≡ m → hits p (pieces d a) ≡ one (inside p d && not (inside p a))
+        → hits (x ∷ p) (cond m (map (before d) (lowPart r s) ++ (map (before d) (highPart r s) ++ map (after (shared r s)) (pieces d a))) ((r ∷ d) ∷ []))
+        ≡ one (within x r && inside p d && not (within x s && inside p a))
+    go false e ih = alone (within x r) (within x s) (inside p d) (inside p a) (apart-field x r s e)
+    go true e ih =
+        rw (hits-append, hits-append, hits-before, hits-before, hits-after, ih, shared-field x r s e (w .0))
+        (join (within x r) (within x s) (inside p d) (inside p a) (sums x (lowPart r s)) (sums x (highPart r s)) (parts-field x r s e (w .0)))
+
+pub within-self : (d : Region) → Within d d
+unfolding Within
+within-self [] = tt
+within-self (r ∷ d) = (omega arith, omega arith, within-self d)
+
+pieces-inside : (d a : Region) → Whole d → Whole a → Each (Piece d) (pieces d a)
+unfolding pieces Whole Within Each
+pieces-inside [] [] u v = tt
+pieces-inside [] (s ∷ a) u v = ((tt, tt), tt)
+pieces-inside (r ∷ d) [] u v = ((u, within-self (r ∷ d)), tt)
+pieces-inside (r ∷ d) (s ∷ a) u v = go (meets r s) refl (pieces-inside d a (u .1) (v .1))
+  where
+    low : (t : Bool) → ltb (r .low) (s .low) ≡ t → meets r s ≡ true → Each (Piece (r ∷ d)) (map (before d) (cond t (range (r .low) (s .low - 1) ∷ []) []))
+    low false e m = tt
+    low true e m =
+        let t = ltb-true (r .low) (s .low) e in
+        let f = meets-fact r s m in
+        (((omega arith, u .1), (omega arith, omega arith, within-self d)), tt)
+
+    high : (t : Bool) → ltb (s .high) (r .high) ≡ t → meets r s ≡ true → Each (Piece (r ∷ d)) (map (before d) (cond t (range (s .high + 1) (r .high) ∷ []) []))
+    high false e m = tt
+    high true e m =
+        let t = ltb-true (s .high) (r .high) e in
+        let f = meets-fact r s m in
+        (((omega arith, u .1), (omega arith, omega arith, within-self d)), tt)
+
+    go : (m : Bool) → meets r s ≡ m → Each (Piece d) (pieces d a)
+        → Each (Piece (r ∷ d)) (cond m (map (before d) (lowPart r s) ++ (map (before d) (highPart r s) ++ map (after (shared r s)) (pieces d a))) ((r ∷ d) ∷ []))
+    go false e ih = ((u, within-self (r ∷ d)), tt)
+    go true e ih =
+        let f = meets-fact r s e in
+        each-append (Piece (r ∷ d)) (map (before d) (lowPart r s)) (map (before d) (highPart r s) ++ map (after (shared r s)) (pieces d a)) (low (ltb (r .low) (s .low)) refl e)
+        (each-append (Piece (r ∷ d)) (map (before d) (highPart r s)) (map (after (shared r s)) (pieces d a)) (high (ltb (s .high) (r .high)) refl e)
+        (each-map (Piece d) (Piece (r ∷ d)) (after (shared r s)) (pieces d a) (λ b h. ((omega arith, h .0), (omega arith, omega arith, h .1))) ih))
+
+-- at most two pieces for each field
+pieces-few : (d a : Region) → length a ≡ length d → length (pieces d a) ≤ 2 * length d
+unfolding pieces
+pieces-few [] [] h = omega arith
+pieces-few [] (s ∷ a) h = omega arith
+pieces-few (r ∷ d) [] h = omega arith
+pieces-few (r ∷ d) (s ∷ a) h = go (meets r s) (pieces-few d a (omega arith))
+  where
+    short : (t : Bool) (q : Range) → length (map (before d) (cond t (q ∷ []) [])) ≤ 1
+    short true q = omega arith
+    short false q = omega arith
+
+    go : (m : Bool) → length (pieces d a) ≤ 2 * length d
+        → length (cond m (map (before d) (lowPart r s) ++ (map (before d) (highPart r s) ++ map (after (shared r s)) (pieces d a))) ((r ∷ d) ∷ [])) ≤ 2 * suc (length d)
+    go false ih = omega arith
+    go true ih =
+        let f = short (ltb (r .low) (s .low)) (range (r .low) (s .low - 1)) in
+        let g = short (ltb (s .high) (r .high)) (range (s .high + 1) (r .high)) in
+        rw (length-append, length-append, length-map (pieces d a) (after (shared r s))) (omega arith)
+
+-- a box less itself leaves nothing
+pieces-itself : (b : Region) → Whole b → pieces b b ≡ []
+unfolding pieces Whole
+pieces-itself [] w = refl
+pieces-itself (r ∷ b) w =
+    rw (
+      le-leb (r .low) (r .high) (w .0),
+      le-ltb (r .low) (r .low) (omega arith),
+      le-ltb (r .high) (r .high) (omega arith),
+      pieces-itself b (w .1),
+    )
+
+-- The same of `cut`, which is all that other files know of it.
+pub cut-hits : (p : Packet) (d a : Region) → Whole a → hits p (cut d a) ≡ one (inside p d && not (inside p a))
+unfolding cut
+cut-hits p d a w = pieces-hits p d a w
+
+pub cut-inside : (d a : Region) → Whole d → Whole a → Each (Piece d) (cut d a)
+unfolding cut
+cut-inside d a u v = pieces-inside d a u v
+
+pub cut-few : (d a : Region) → length a ≡ length d → length (cut d a) ≤ 2 * length d
+unfolding cut
+cut-few d a h = pieces-few d a h
+
+pub cut-itself : (b : Region) → Whole b → cut b b ≡ []
+unfolding cut
+cut-itself b w = pieces-itself b w

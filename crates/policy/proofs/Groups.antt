@@ -1,0 +1,136 @@
+-- The facts of a cut read over a list of boxes, and lifted to the group of a deny rule.
+use mathlib.Core.Path.{_≡_, refl, ap, sym, _∙_}
+use mathlib.Core.List.{List, [], _∷_, _++_, map}
+use mathlib.Core.Bool.{Bool, true, false, cond, not, _&&_, _||_, true≢false, false≢true}
+use mathlib.Core.Logic.{_⊎_, inl, inr, ⊎-elim, _↔_}
+use Prim.Native.Nat.{ℕ, suc, zero, _+_, _-_, _*_, _≤_, _<_}
+use native.Mathlib.Omega.{arith}
+use lib.ListN.{length, getD}
+use Rattle.policy.specs.Ranges.{Range, Region, Packet, within, inside, Whole, Within}
+use Rattle.policy.specs.Cut.{cut, cutEach, group, anyHas}
+use Rattle.lists.specs.Lists.{Each}
+use Rattle.lists.proofs.Lists.{each-append, each-imp}
+use Rattle.policy.specs.Demands.{Piece, Apart, Covers}
+use Rattle.policy.proofs.Cuts.{one, hits, hits-append, cut-hits, cut-inside, within-self}
+
+hit : (p : Packet) (l : List Region) (i : ℕ) → i < length l → inside p (getD l i []) ≡ true → 1 ≤ hits p l
+unfolding hits
+hit p [] i h e = omega arith
+hit p (b ∷ l) zero h e = rw e (omega arith)
+hit p (b ∷ l) (suc i) h e = let g = hit p l i (omega arith) e in omega arith
+
+found : (p : Packet) (l : List Region) → 1 ≤ hits p l → Covers l p
+unfolding hits
+found p [] h = absurd (omega arith)
+found p (b ∷ l) h = go (inside p b) refl h (λ k. found p l k)
+  where
+    go : (t : Bool) → inside p b ≡ t → 1 ≤ one t + hits p l → (1 ≤ hits p l → Covers l p) → Covers (b ∷ l) p
+    go true e k f = (0, omega arith, e)
+    go false e k f = let g = f (omega arith) in (suc (g .0), omega arith, g .2)
+
+hit-twice : (p : Packet) (l : List Region) (i j : ℕ) → i < j → j < length l → inside p (getD l i []) ≡ true → inside p (getD l j []) ≡ true → 2 ≤ hits p l
+unfolding hits
+hit-twice p [] i j o h e f = omega arith
+hit-twice p (b ∷ l) zero zero o h e f = omega arith
+hit-twice p (b ∷ l) (suc i) zero o h e f = omega arith
+hit-twice p (b ∷ l) zero (suc j) o h e f = let g = hit p l j (omega arith) f in rw e (omega arith)
+hit-twice p (b ∷ l) (suc i) (suc j) o h e f = let g = hit-twice p l i j (omega arith) (omega arith) e f in omega arith
+
+one-le : (t : Bool) → one t ≤ 1
+one-le true = omega arith
+one-le false = omega arith
+
+one-true : (t : Bool) → 1 ≤ one t → t ≡ true
+one-true true h = refl
+one-true false h = absurd (omega arith)
+
+-- a list of boxes that counts each packet of a test once is apart, and covers exactly the test
+pub once-apart : (t : Packet → Bool) (l : List Region) → ((p : Packet) → hits p l ≡ one (t p)) → Apart l
+once-apart t l h i j o k p e f =
+    let g = hit-twice p l i j o k e f in
+    let m = h p in
+    let n = one-le (t p) in
+    omega arith
+
+pub once-covers : (t : Packet → Bool) (l : List Region) → ((p : Packet) → hits p l ≡ one (t p)) → (p : Packet) → Covers l p ↔ (t p ≡ true)
+once-covers t l h p = (
+  (λ c. let g = hit p l (c .0) (c .1) (c .2) in let m = h p in one-true (t p) (omega arith)),
+  (λ e. let m : hits p l ≡ 1 = h p ∙ ap one e in found p l (omega arith)),
+)
+
+-- the cut
+pub cut-apart : (d a : Region) → Whole a → Apart (cut d a)
+cut-apart d a w = once-apart (λ p. inside p d && not (inside p a)) (cut d a) (λ p. cut-hits p d a w)
+
+pub cut-covers : (d a : Region) → Whole a → (p : Packet) → Covers (cut d a) p ↔ ((inside p d && not (inside p a)) ≡ true)
+cut-covers d a w = once-covers (λ p. inside p d && not (inside p a)) (cut d a) (λ p. cut-hits p d a w)
+
+-- the group
+cutEach-hits : (p : Packet) (ds : List Region) (a : Region) → Whole a → hits p (cutEach ds a) ≡ cond (inside p a) 0 (hits p ds)
+unfolding hits cutEach
+cutEach-hits p [] a w = go (inside p a)
+  where
+    go : (t : Bool) → _≡_ {A = ℕ} 0 (cond t 0 0)
+    go true = refl
+    go false = refl
+cutEach-hits p (d ∷ ds) a w =
+    rw (hits-append p (cut d a) (cutEach ds a), cutEach-hits p ds a w, cut-hits p d a w) (go (inside p d) (inside p a) (hits p ds))
+  where
+    go : (u t : Bool) (n : ℕ) → one (u && not t) + cond t 0 n ≡ cond t 0 (one u + n)
+    go true true n = refl
+    go true false n = refl
+    go false true n = refl
+    go false false n = refl
+
+pub group-each-hits : (p : Packet) (ds l : List Region) → Each Whole l → hits p (group ds l) ≡ cond (anyHas p l) 0 (hits p ds)
+unfolding group anyHas Each
+group-each-hits p ds [] w = refl
+group-each-hits p ds (a ∷ l) w = group-each-hits p (cutEach ds a) l (w .1) ∙ rw (cutEach-hits p ds a (w .0)) (go (inside p a) (anyHas p l) (hits p ds))
+  where
+    go : (u t : Bool) (n : ℕ) → cond t 0 (cond u 0 n) ≡ cond (u || t) 0 n
+    go true true n = refl
+    go true false n = refl
+    go false t n = refl
+
+pub group-hits : (p : Packet) (d : Region) (l : List Region) → Each Whole l → hits p (group (d ∷ []) l) ≡ one (inside p d && not (anyHas p l))
+unfolding hits
+group-hits p d l w = group-each-hits p (d ∷ []) l w ∙ go (inside p d) (anyHas p l)
+  where
+    go : (u t : Bool) → cond t 0 (one u + 0) ≡ one (u && not t)
+    go true true = refl
+    go true false = refl
+    go false true = refl
+    go false false = refl
+
+pub group-apart : (d : Region) (l : List Region) → Each Whole l → Apart (group (d ∷ []) l)
+group-apart d l w = once-apart (λ p. inside p d && not (anyHas p l)) (group (d ∷ []) l) (λ p. group-hits p d l w)
+
+pub group-covers : (d : Region) (l : List Region) → Each Whole l → (p : Packet) → Covers (group (d ∷ []) l) p ↔ ((inside p d && not (anyHas p l)) ≡ true)
+group-covers d l w = once-covers (λ p. inside p d && not (anyHas p l)) (group (d ∷ []) l) (λ p. group-hits p d l w)
+
+-- every box of a group is never empty, and inside the deny box
+within-trans : (a b c : Region) → Within a b → Within b c → Within a c
+unfolding Within
+within-trans [] [] [] h k = tt
+within-trans [] [] (t ∷ c) h k = k
+within-trans [] (s ∷ b) c h k = absurd h
+within-trans (r ∷ a) [] c h k = absurd h
+within-trans (r ∷ a) (s ∷ b) [] h k = k
+within-trans (r ∷ a) (s ∷ b) (t ∷ c) h k = (omega arith, omega arith, within-trans a b c (h .2) (k .2))
+
+cutEach-inside : (d : Region) (ds : List Region) (a : Region) → Whole a → Each (Piece d) ds → Each (Piece d) (cutEach ds a)
+unfolding cutEach Each
+cutEach-inside d [] a w h = tt
+cutEach-inside d (b ∷ ds) a w h =
+    each-append (Piece d) (cut b a) (cutEach ds a)
+    (each-imp (Piece b) (Piece d) (cut b a) (λ x q. (q .0, within-trans x b d (q .1) (h .0 .1))) (cut-inside b a (h .0 .0) w))
+    (cutEach-inside d ds a w (h .1))
+
+group-each-inside : (d : Region) (ds l : List Region) → Each Whole l → Each (Piece d) ds → Each (Piece d) (group ds l)
+unfolding group Each
+group-each-inside d ds [] w h = h
+group-each-inside d ds (a ∷ l) w h = group-each-inside d (cutEach ds a) l (w .1) (cutEach-inside d ds a (w .0) h)
+
+pub group-inside : (d : Region) (l : List Region) → Whole d → Each Whole l → Each (Piece d) (group (d ∷ []) l)
+unfolding Each
+group-inside d l u w = group-each-inside d (d ∷ []) l w ((u, within-self d), tt)

@@ -1,0 +1,10 @@
+pub mod Numbers
+pub mod Values
+pub mod Cuts
+pub mod Groups
+pub mod Moves
+pub mod Edits
+pub mod Kept
+pub mod Checks
+pub mod Boundary
+pub mod Demands

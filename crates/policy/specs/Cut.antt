@@ -1,0 +1,58 @@
+-- Cutting one box from another, and the group of a deny rule (01, Cutting one box from another). Assumes nothing.
+use mathlib.Core.List.{List, [], _∷_, _++_, map}
+use mathlib.Core.Bool.{Bool, true, false, cond, _&&_, _||_}
+use Prim.Native.Nat.{_+_, _-_, min, max}
+use lib.Dec.{leb, ltb}
+use Rattle.policy.specs.Ranges.{Range, range, Region, Packet, inside}
+
+-- The ranges share a value.
+abbrev pub meets : Range → Range → Bool
+meets r s = leb (r .low) (s .high) && leb (s .low) (r .high)
+
+-- The part of r below s, if any; the part above s, if any; the range that both share.
+abbrev pub lowPart : Range → Range → List Range
+lowPart r s = cond (ltb (r .low) (s .low)) (range (r .low) (s .low - 1) ∷ []) []
+
+abbrev pub highPart : Range → Range → List Range
+highPart r s = cond (ltb (s .high) (r .high)) (range (s .high + 1) (r .high) ∷ []) []
+
+abbrev pub shared : Range → Range → Range
+shared r s = range (max (r .low) (s .low)) (min (r .high) (s .high))
+
+-- A range in front of the later fields.
+abbrev pub before : Region → Range → Region
+before d r = r ∷ d
+
+abbrev pub after : Range → Region → Region
+after r d = r ∷ d
+
+-- The printed algorithm, field by field: where the ranges meet, the low part and the high part with d's later fields, then
+-- what the later fields leave behind the shared range; where they do not, d's own range, and stop. The pieces stand in the
+-- order in which they are made. (Boxes with different numbers of fields share nothing.)
+unfoldable pub pieces : Region → Region → List Region
+pieces [] [] = []
+pieces [] (s ∷ a) = [] ∷ []
+pieces (r ∷ d) [] = (r ∷ d) ∷ []
+pieces (r ∷ d) (s ∷ a) =
+    cond (meets r s)
+    (map (before d) (lowPart r s) ++ (map (before d) (highPart r s) ++ map (after (shared r s)) (pieces d a)))
+    ((r ∷ d) ∷ [])
+
+-- What allow box a leaves of deny box d.
+unfoldable pub cut : Region → Region → List Region
+cut d a = pieces d a
+
+-- Every piece, in order, replaced by what one allow leaves of it.
+unfoldable pub cutEach : List Region → Region → List Region
+cutEach [] a = []
+cutEach (d ∷ ds) a = cut d a ++ cutEach ds a
+
+-- The pieces after all of these allows, taken in order.
+unfoldable pub group : List Region → List Region → List Region
+group ds [] = ds
+group ds (a ∷ allows) = group (cutEach ds a) allows
+
+-- Some box of the list has the packet.
+unfoldable pub anyHas : Packet → List Region → Bool
+anyHas p [] = false
+anyHas p (b ∷ bs) = inside p b || anyHas p bs

@@ -1,0 +1,11 @@
+pub mod Fields
+pub mod Ranges
+pub mod Rules
+pub mod Cut
+pub mod Refusals
+pub mod Move
+pub mod Edit
+pub mod Check
+pub mod Demands
+pub mod Values
+pub mod Boundary

@@ -1,0 +1,101 @@
+-- The groups of a gate list, the moved pair, and when a move is refused (01, Cutting one box from another and Numbers given
+-- back). Assumes nothing.
+use mathlib.Core.List.{List, [], _∷_, _++_, map}
+use mathlib.Core.Bool.{Bool, true, false, cond, not, _||_}
+use Prim.Native.Nat.{ℕ, _+_}
+use lib.Dec.{ltb}
+use lib.ListN.{length}
+use Rattle.policy.specs.Fields.{Limits}
+use Rattle.policy.specs.Ranges.{Region}
+use Rattle.policy.specs.Cut.{cutEach, group}
+use Rattle.policy.specs.Rules.{Rule, rule, isAllow, full, complete}
+use Rattle.policy.specs.Refusals.{given, orElse, faults}
+
+-- What an order sheet holds, and what a pair sheet holds.
+pub record Order : Type 0 where
+  pub gate : List Rule
+  pub own : List Rule
+
+pub record Pair : Type 0 where
+  pub order : Order
+  pub groups : List (List Region)
+
+-- A deny rule's group: kept as it stands, or worked out anew from the pieces that it starts with and the allows to take.
+pub data Slot : Type 0 where
+  kept : List Region → Slot
+  anew : List Region → List Region → Slot
+
+-- A slot for each deny rule, in list order: its start, and every allow rule before it. Deny rules play no part in later slots.
+unfoldable pub slots : (Region → List Region) → List Region → List Rule → List Slot
+slots start allows [] = []
+slots start allows (r ∷ l) =
+    cond (isAllow r) (slots start (allows ++ (r .region ∷ [])) l) (anew (start (r .region)) allows ∷ slots start allows l)
+
+-- A group starts with the deny rule's box alone.
+abbrev pub startOf : Order → Region → List Region
+startOf o d = d ∷ []
+
+abbrev pub slotsOf : Order → List Slot
+slotsOf o = slots (startOf o) [] (o .gate)
+
+-- The boxes that a slot comes to.
+unfoldable pub boxesOf : Slot → List Region
+boxesOf (kept g) = g
+boxesOf (anew ds allows) = group ds allows
+
+abbrev pub groupsOf : (Region → List Region) → List Rule → List (List Region)
+groupsOf start gate = map boxesOf (slots start [] gate)
+
+-- The boxes of all groups, in gate order.
+unfoldable pub together : List (List Region) → List Region
+together [] = []
+together (g ∷ gs) = g ++ together gs
+
+-- Number 6: after some allow has been taken from all pieces of one deny rule, more than the limit are left; asked of the
+-- groups that are worked out anew, and asked also where a later allow would remove those pieces.
+unfoldable pub over : ℕ → List Region → List Region → Bool
+over most ds [] = false
+over most ds (a ∷ allows) = ltb most (length (cutEach ds a)) || over most (cutEach ds a) allows
+
+unfoldable pub overSlot : ℕ → Slot → Bool
+overSlot most (kept g) = false
+overSlot most (anew ds allows) = over most ds allows
+
+unfoldable pub anyOver : ℕ → List Slot → Bool
+anyOver most [] = false
+anyOver most (s ∷ l) = overSlot most s || anyOver most l
+
+unfoldable pub work : Limits → List Slot → ℕ
+work lim l = given (anyOver (lim .pieces) l) 6
+
+-- 6, then number 7: all boxes and the own rules together exceed the limit.
+unfoldable pub room : Limits → Order → List Slot → ℕ
+room lim o l = orElse (work lim l) (given (ltb (lim .total) (length (together (map boxesOf l)) + length (o .own))) 7)
+
+-- The moved pair keeps the two lists and holds every group.
+abbrev pub moved : Order → Pair
+moved o = record { order = o; groups = groupsOf (startOf o) (o .gate) }
+
+-- The boxes as deny rules.
+unfoldable pub denials : List Region → List Rule
+denials [] = []
+denials (b ∷ bs) = rule b 0 ∷ denials bs
+
+-- The gate list of a pair is one full allow rule; its cell list is every group's boxes as deny rules, then the own rules.
+abbrev pub gateList : Pair → List Rule
+gateList s = rule full 1 ∷ []
+
+abbrev pub cellList : Pair → List Rule
+cellList s = denials (together (s .groups)) ++ s .order .own
+
+-- What reading gives of one list: 2 for its count, 4 for a rule, 5 unless it is complete.
+abbrev pub badCount : ℕ → ℕ → Bool
+badCount most n = ltb n 1 || ltb most n
+
+unfoldable pub listRefusal : ℕ → List Rule → ℕ
+listRefusal most l = orElse (given (badCount most (length l)) 2) (orElse (faults l) (given (not (complete l)) 5))
+
+-- A move of two lists: what reading gives of A, then of B, then 6 and 7. With 0 it is accepted and gives `moved`.
+unfoldable pub moveRefusal : Limits → Order → ℕ
+moveRefusal lim o =
+    orElse (listRefusal (lim .gate) (o .gate)) (orElse (listRefusal (lim .own) (o .own)) (room lim o (slotsOf o)))

@@ -1,0 +1,184 @@
+// Boxes, rules and packets by value, the refusals, and the answers of the calls. Everything that depends on the number of
+// fields or on a width stands in the fields' table below.
+ghost use mathlib.Core.Path.{_≡_};
+ghost use Prim.Native.Nat.{_+_, _-_, _≤_, _<_};
+ghost use lib.ListN.{length, set};
+ghost use Rattle.policy.specs.Fields.{fields, highest};
+ghost use Rattle.policy.specs.Ranges.{range, properRange, proper, fullRange, isFull};
+ghost use Rattle.policy.specs.Rules.{sound};
+ghost use Rattle.policy.specs.Refusals.{numberOf};
+ghost use Rattle.policy.specs.Values.{regionOf, rangeAt, ruleOf};
+
+// The fields' table: source address, destination address, source port, destination port, protocol.
+pub const FIELDS: usize = 5;
+
+pub const HIGHEST: [u32; FIELDS] = [4294967295, 4294967295, 65535, 65535, 255];
+
+pub const WIDTH: [usize; FIELDS] = [4, 4, 2, 2, 1];
+
+pub const BOX_BYTES: usize = 2 * (WIDTH[0] + WIDTH[1] + WIDTH[2] + WIDTH[3] + WIDTH[4]);
+
+pub const RECORD_BYTES: usize = BOX_BYTES + 1;
+
+// The limits: rules of A, own rules, pieces of one deny rule on the way, boxes plus own rules.
+pub const GATE_MOST: usize = 64;
+
+pub const OWN_MOST: usize = 256;
+
+pub const PIECES_MOST: usize = 1024;
+
+pub const TOTAL_MOST: usize = 1024;
+
+// A range for each field.
+pub struct Box {
+    pub low: [u32; FIELDS],
+    pub high: [u32; FIELDS],
+}
+
+pub struct Rule {
+    pub bounds: Box,
+    pub action: u32,
+}
+
+pub struct Packet {
+    pub values: [u32; FIELDS],
+}
+
+pub enum Refusal {
+    BufferShort,
+    CountOutside,
+    LengthWrong,
+    RuleBad,
+    NotComplete,
+    TooManyPieces,
+    TooManyBoxes,
+    GroupsDiffer,
+    NoPlace,
+}
+
+// The new length of what a call wrote, or the refusal.
+pub enum Answer {
+    Length(usize),
+    Refused(Refusal),
+}
+
+pub fn number_of(f: Refusal) -> u32
+    ensures { λ r. ⌜ (r ≡ numberOf f) × (r ≤ 9) ⌝ }
+{
+    match f {
+        Refusal::BufferShort => 1,
+        Refusal::CountOutside => 2,
+        Refusal::LengthWrong => 3,
+        Refusal::RuleBad => 4,
+        Refusal::NotComplete => 5,
+        Refusal::TooManyPieces => 6,
+        Refusal::TooManyBoxes => 7,
+        Refusal::GroupsDiffer => 8,
+        Refusal::NoPlace => 9,
+    }
+}
+
+fn is_proper_range(low: u32, high: u32, most: u32) -> bool
+    ensures { λ r. ⌜ r ≡ properRange most (range low high) ⌝ }
+{
+    if high < low {
+        return false;
+    }
+    high <= most
+}
+
+fn is_full_range(low: u32, high: u32, most: u32) -> bool
+    ensures { λ r. ⌜ r ≡ fullRange most (range low high) ⌝ }
+{
+    if low != 0 {
+        return false;
+    }
+    high == most
+}
+
+impl Box {
+    pub fn low_at(self, k: usize) -> u32
+        requires { ⌜ k < fields ⌝ }
+        ensures { λ r. ⌜ (r ≡ rangeAt (regionOf self) k .low) × (length (regionOf self) ≡ fields) ⌝ }
+    {
+        let low = self.low;
+        low[k]
+    }
+
+    pub fn high_at(self, k: usize) -> u32
+        requires { ⌜ k < fields ⌝ }
+        ensures { λ r. ⌜ (r ≡ rangeAt (regionOf self) k .high) × (length (regionOf self) ≡ fields) ⌝ }
+    {
+        let high = self.high;
+        high[k]
+    }
+
+    // Field k narrowed to a range.
+    pub fn narrow(self, k: usize, low: u32, high: u32) -> Box
+        requires { ⌜ k < fields ⌝ }
+        ensures { λ r. ⌜ regionOf r ≡ set (regionOf self) k (range low high) ⌝ }
+    {
+        let mut b = self;
+        b.low[k] = low;
+        b.high[k] = high;
+        b
+    }
+
+    // The part whose field k is below x.
+    pub fn low_part(self, k: usize, x: u32) -> Box
+        requires { ⌜ (k < fields) × (0 < x) ⌝ }
+        ensures { λ r. ⌜ regionOf r ≡ set (regionOf self) k (range (rangeAt (regionOf self) k .low) (x - 1)) ⌝ }
+    {
+        let low = self.low;
+        self.narrow(k, low[k], x - 1)
+    }
+
+    // The part whose field k is above x.
+    pub fn high_part(self, k: usize, x: u32) -> Box
+        requires { ⌜ (k < fields) × (x < 4294967295) ⌝ }
+        ensures { λ r. ⌜ regionOf r ≡ set (regionOf self) k (range (x + 1) (rangeAt (regionOf self) k .high)) ⌝ }
+    {
+        let high = self.high;
+        self.narrow(k, x + 1, high[k])
+    }
+
+    // No low above its high, no value above its field's highest.
+    pub fn is_proper(self) -> bool
+        ensures { λ r. ⌜ r ≡ proper highest (regionOf self) ⌝ }
+    {
+        let mut k: usize = 0;
+        while k < FIELDS {
+            if !is_proper_range(self.low_at(k), self.high_at(k), HIGHEST[k]) {
+                return false;
+            }
+            k += 1;
+        }
+        true
+    }
+
+    pub fn is_full(self) -> bool
+        ensures { λ r. ⌜ r ≡ isFull highest (regionOf self) ⌝ }
+    {
+        let mut k: usize = 0;
+        while k < FIELDS {
+            if !is_full_range(self.low_at(k), self.high_at(k), HIGHEST[k]) {
+                return false;
+            }
+            k += 1;
+        }
+        true
+    }
+}
+
+impl Rule {
+    // A rule that number 4 lets pass.
+    pub fn is_sound(self) -> bool
+        ensures { λ r. ⌜ r ≡ sound (ruleOf self) ⌝ }
+    {
+        let bounds = self.bounds;
+        if bounds.is_proper() {
+            return self.action <= 1;
+        }
+        false
+    }
+}
