@@ -47,6 +47,10 @@ actionSize = 1
 abbrev pub recordSize : ℕ
 recordSize = boxSize + actionSize
 
+-- 01, Sheets: each section follows its count of two bytes.
+abbrev pub countSize : ℕ
+countSize = 2
+
 -- What a call is bound by: the most rules of A, the most rules of B, the most pieces of one deny rule while its group is
 -- worked out (number 6), and the most boxes and own rules together (number 7).
 pub record Limits : Type 0 where

@@ -20,6 +20,9 @@ pub const BOX_BYTES: usize = 2 * (WIDTH[0] + WIDTH[1] + WIDTH[2] + WIDTH[3] + WI
 
 pub const RECORD_BYTES: usize = BOX_BYTES + 1;
 
+// The bytes of a count.
+pub const COUNT_BYTES: usize = 2;
+
 // The limits: rules of A, own rules, pieces of one deny rule on the way, boxes plus own rules.
 pub const GATE_MOST: usize = 64;
 

@@ -1,0 +1,53 @@
+-- Lookup of a packet in list bytes (01, Calls and Numbers given back). Assumes nothing.
+use mathlib.Core.List.{List, [], _∷_, _++_}
+use mathlib.Core.Bool.{cond}
+use Prim.Native.Nat.{ℕ, suc, _+_, _*_}
+use lib.Dec.{leb, eqb}
+use lib.ListN.{length, take, drop}
+use Rattle.policy.specs.Fields.{countSize, recordSize}
+use Rattle.policy.specs.Ranges.{Packet, inside}
+use Rattle.policy.specs.Rules.{Rule, sound}
+use Rattle.policy.specs.Refusals.{Outcome, accepted, refused, test}
+use Rattle.wire.specs.Numbers.{numberBytes, numberIn}
+use Rattle.wire.specs.Records.{recordsBytes, rulesIn}
+
+-- The rule that decides: its place, from 0, and its action.
+pub record Hit : Type 0 where
+  pub place : ℕ
+  pub action : ℕ
+
+abbrev pub hit : ℕ → ℕ → Hit
+hit n a = record { place = n; action = a }
+
+-- Rules up to the first that fits: 4 at a bad one, before the packet is compared with it; 5 if none fits.
+unfoldable pub lookFrom : ℕ → Packet → List Rule → Outcome Hit
+lookFrom n p [] = refused 5
+lookFrom n p (r ∷ l) =
+    test (sound r) 4 (cond (inside p (r .region)) (accepted (hit n (r .action))) (lookFrom (suc n) p l))
+
+-- 01, Sheets: a list is its count and its records.
+unfoldable pub listBytes : List Rule → List ℕ
+listBytes l = numberBytes countSize (length l) ++ recordsBytes l
+
+abbrev pub listSize : ℕ → ℕ
+listSize n = countSize + recordSize * n
+
+abbrev countIn : List ℕ → ℕ
+countIn s = numberIn (take countSize s)
+
+-- The count is there (3) and within its limits (2), the length is exactly that of so many records (3); then the rules.
+unfoldable pub lookup : ℕ → Packet → List ℕ → Outcome Hit
+lookup most p s =
+    test (leb countSize (length s)) 3
+    (test (leb 1 (countIn s)) 2
+    (test (leb (countIn s) most) 2
+    (test (eqb (length s) (listSize (countIn s))) 3
+    (lookFrom 0 p (rulesIn (countIn s) (drop countSize s))))))
+
+-- For C one number: twice the place and the action, or 65,536 and the refusal.
+abbrev pub refusalBase : ℕ
+refusalBase = 65536
+
+unfoldable pub lookupNumber : Outcome Hit → ℕ
+lookupNumber (accepted h) = 2 * h .place + h .action
+lookupNumber (refused n) = refusalBase + n

@@ -1,0 +1,5 @@
+pub mod Sections
+pub mod Orders
+pub mod Pairs
+pub mod Split
+pub mod Join

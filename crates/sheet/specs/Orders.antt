@@ -1,0 +1,39 @@
+-- The order sheet, and a list read whole (01, Sheets and Numbers given back). Assumes nothing.
+use mathlib.Core.List.{List, _++_}
+use Prim.Native.Nat.{ℕ, _+_}
+use lib.Dec.{eqb}
+use lib.ListN.{length}
+use Rattle.policy.specs.Fields.{Limits}
+use Rattle.policy.specs.Rules.{Rule}
+use Rattle.policy.specs.Refusals.{Outcome, accepted, test, andThen}
+use Rattle.policy.specs.Move.{Order}
+use Rattle.sheet.specs.Sections.{Reading, section, sectionSize, sectionBytes}
+
+-- Nothing may be left over (3), and this is asked last.
+abbrev pub ended : {A B : Type 0} → Reading A → B → Outcome B
+ended r v = test (eqb (length (r .rest)) 0) 3 (accepted v)
+
+abbrev pub order : List Rule → List Rule → Order
+order a b = record { gate = a; own = b }
+
+-- Section A, the gate's rules; then section B, the cell's own rules, which begins where A ends.
+unfoldable pub orderIn : Limits → List ℕ → Outcome Order
+orderIn lim s =
+    andThen (section (lim .gate) s) (λ a. andThen (section (lim .own) (a .rest)) (λ b. ended b (order (a .value) (b .value))))
+
+unfoldable pub orderBytes : Order → List ℕ
+orderBytes o = sectionBytes (o .gate) ++ sectionBytes (o .own)
+
+-- A list of A or of B by itself.
+unfoldable pub listIn : ℕ → List ℕ → Outcome (List Rule)
+listIn most s = andThen (section most s) (λ a. ended a (a .value))
+
+-- The largest A list, B list and order sheet.
+abbrev pub gateSize : Limits → ℕ
+gateSize lim = sectionSize (lim .gate)
+
+abbrev pub ownSize : Limits → ℕ
+ownSize lim = sectionSize (lim .own)
+
+abbrev pub orderSize : Limits → ℕ
+orderSize lim = gateSize lim + ownSize lim

@@ -1,0 +1,26 @@
+-- Numbers in bytes, big-endian (01, Sheets). Assumes nothing.
+use mathlib.Core.List.{List, [], _∷_, _++_}
+use mathlib.Core.Bool.{Bool, _||_}
+use Prim.Native.Nat.{ℕ, zero, suc, _+_, _*_, _/_, _%_, _<_}
+use lib.Dec.{eqb}
+
+-- The w bytes of x, the highest first.
+unfoldable pub numberBytes : ℕ → ℕ → List ℕ
+numberBytes zero x = []
+numberBytes (suc w) x = numberBytes w (x / 256) ++ (x % 256 ∷ [])
+
+-- The number that bytes say.
+unfoldable pub numberFrom : ℕ → List ℕ → ℕ
+numberFrom x [] = x
+numberFrom x (b ∷ bs) = numberFrom (x * 256 + b) bs
+
+abbrev pub numberIn : List ℕ → ℕ
+numberIn bs = numberFrom 0 bs
+
+-- What a list of numbers must be to be bytes.
+abbrev pub Byte : ℕ → Type 0
+Byte b = b < 256
+
+-- The widths that a field can have.
+unfoldable pub isWidth : ℕ → Bool
+isWidth w = eqb w 4 || (eqb w 2 || eqb w 1)

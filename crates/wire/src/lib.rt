@@ -1,0 +1,196 @@
+// Numbers, boxes and records in bytes, and the zeroing and filling of lent bytes.
+use policy::BOX_BYTES;
+use policy::Box;
+use policy::FIELDS;
+use policy::Rule;
+use policy::WIDTH;
+ghost use mathlib.Core.Path.{_≡_};
+ghost use mathlib.Core.Bool.{true};
+ghost use Prim.Native.Nat.{_+_, _≤_, _<_};
+ghost use lib.ListN.{length, take, drop};
+ghost use lib.Seq.{sets};
+ghost use Rattle.policy.specs.Fields.{boxSize, recordSize, countSize};
+ghost use Rattle.policy.specs.Values.{regionOf, ruleOf};
+ghost use Rattle.wire.specs.Numbers.{numberBytes, numberIn, isWidth};
+ghost use Rattle.wire.specs.Records.{boxBytes, boxIn, recordBytes, ruleIn};
+ghost use Rattle.wire.specs.Buffers.{zeroed, filled};
+
+fn wide(x: u8) -> u32
+    ensures { λ r. ⌜ (r ≡ x) × (r < 256) ⌝ }
+{
+    x as u32
+}
+
+fn four_at(s: &[u8], at: usize) -> u32
+    requires { ⌜ at + 4 ≤ length (now s) ⌝ }
+    ensures { λ r. ⌜ r ≡ numberIn (take 4 (drop at (now (s .entry)))) ⌝ }
+{
+    wide(s[at]) * 16777216 + wide(s[at + 1]) * 65536 + wide(s[at + 2]) * 256 + wide(s[at + 3])
+}
+
+fn two_at(s: &[u8], at: usize) -> u32
+    requires { ⌜ at + 2 ≤ length (now s) ⌝ }
+    ensures { λ r. ⌜ (r ≡ numberIn (take 2 (drop at (now (s .entry))))) × (r < 65536) ⌝ }
+{
+    wide(s[at]) * 256 + wide(s[at + 1])
+}
+
+fn one_at(s: &[u8], at: usize) -> u32
+    requires { ⌜ at + 1 ≤ length (now s) ⌝ }
+    ensures { λ r. ⌜ r ≡ numberIn (take 1 (drop at (now (s .entry)))) ⌝ }
+{
+    wide(s[at])
+}
+
+fn put_four(out: &mut [u8], at: usize, x: u32)
+    requires { ⌜ at + 4 ≤ length (now out) ⌝ }
+    ensures { λ r. ⌜ now (out .exit) ≡ sets (now (out .entry)) at (numberBytes 4 x) ⌝ }
+{
+    let x1 = x / 256;
+    let x2 = x1 / 256;
+    let x3 = x2 / 256;
+    out[at] = (x3 % 256) as u8;
+    out[at + 1] = (x2 % 256) as u8;
+    out[at + 2] = (x1 % 256) as u8;
+    out[at + 3] = (x % 256) as u8;
+}
+
+fn put_two(out: &mut [u8], at: usize, x: u32)
+    requires { ⌜ at + 2 ≤ length (now out) ⌝ }
+    ensures { λ r. ⌜ now (out .exit) ≡ sets (now (out .entry)) at (numberBytes 2 x) ⌝ }
+{
+    let x1 = x / 256;
+    out[at] = (x1 % 256) as u8;
+    out[at + 1] = (x % 256) as u8;
+}
+
+fn put_one(out: &mut [u8], at: usize, x: u32)
+    requires { ⌜ at + 1 ≤ length (now out) ⌝ }
+    ensures { λ r. ⌜ now (out .exit) ≡ sets (now (out .entry)) at (numberBytes 1 x) ⌝ }
+{
+    out[at] = (x % 256) as u8;
+}
+
+// The number of w bytes at a place.
+fn number_at(s: &[u8], at: usize, w: usize) -> u32
+    requires { ⌜ (at + w ≤ length (now s)) × (isWidth w ≡ true) ⌝ }
+    ensures { λ r. ⌜ r ≡ numberIn (take w (drop at (now (s .entry)))) ⌝ }
+{
+    if w == 4 {
+        return four_at(s, at);
+    }
+    if w == 2 {
+        return two_at(s, at);
+    }
+    one_at(s, at)
+}
+
+fn put_number(out: &mut [u8], at: usize, w: usize, x: u32)
+    requires { ⌜ (at + w ≤ length (now out)) × (isWidth w ≡ true) ⌝ }
+    ensures { λ r. ⌜ now (out .exit) ≡ sets (now (out .entry)) at (numberBytes w x) ⌝ }
+{
+    if w == 4 {
+        put_four(out, at, x);
+        return;
+    }
+    if w == 2 {
+        put_two(out, at, x);
+        return;
+    }
+    put_one(out, at, x);
+}
+
+// The count that stands at a place.
+pub fn count_at(s: &[u8], at: usize) -> usize
+    requires { ⌜ at + countSize ≤ length (now s) ⌝ }
+    ensures { λ r. ⌜ (r ≡ numberIn (take countSize (drop at (now (s .entry))))) × (r < 65536) ⌝ }
+{
+    two_at(s, at) as usize
+}
+
+pub fn put_count(out: &mut [u8], at: usize, n: usize)
+    requires { ⌜ (at + countSize ≤ length (now out)) × (n < 65536) ⌝ }
+    ensures { λ r. ⌜ now (out .exit) ≡ sets (now (out .entry)) at (numberBytes countSize n) ⌝ }
+{
+    put_two(out, at, n as u32);
+}
+
+// The box whose bytes begin at a place.
+pub fn box_at(s: &[u8], at: usize) -> Box
+    requires { ⌜ at + boxSize ≤ length (now s) ⌝ }
+    ensures { λ r. ⌜ regionOf r ≡ boxIn (drop at (now (s .entry))) ⌝ }
+{
+    let mut low = [0u32; FIELDS];
+    let mut high = [0u32; FIELDS];
+    let mut p = at;
+    let mut k: usize = 0;
+    while k < FIELDS {
+        let w = WIDTH[k];
+        low[k] = number_at(s, p, w);
+        high[k] = number_at(s, p + w, w);
+        p = p + w + w;
+        k += 1;
+    }
+    Box { low, high }
+}
+
+// The bytes of a box, from a place on.
+pub fn put_box(out: &mut [u8], at: usize, b: Box)
+    requires { ⌜ at + boxSize ≤ length (now out) ⌝ }
+    ensures { λ r. ⌜ now (out .exit) ≡ sets (now (out .entry)) at (boxBytes (regionOf b)) ⌝ }
+{
+    let low = b.low;
+    let high = b.high;
+    let mut p = at;
+    let mut k: usize = 0;
+    while k < FIELDS {
+        let w = WIDTH[k];
+        put_number(out, p, w, low[k]);
+        put_number(out, p + w, w, high[k]);
+        p = p + w + w;
+        k += 1;
+    }
+}
+
+// The rule whose record begins at a place.
+pub fn rule_at(s: &[u8], at: usize) -> Rule
+    requires { ⌜ at + recordSize ≤ length (now s) ⌝ }
+    ensures { λ r. ⌜ ruleOf r ≡ ruleIn (drop at (now (s .entry))) ⌝ }
+{
+    let bounds = box_at(s, at);
+    Rule {
+        bounds,
+        action: one_at(s, at + BOX_BYTES),
+    }
+}
+
+// The record of a rule, from a place on.
+pub fn put_rule(out: &mut [u8], at: usize, r: Rule)
+    requires { ⌜ at + recordSize ≤ length (now out) ⌝ }
+    ensures { λ _. ⌜ now (out .exit) ≡ sets (now (out .entry)) at (recordBytes (ruleOf r)) ⌝ }
+{
+    let bounds = r.bounds;
+    put_box(out, at, bounds);
+    put_one(out, at + BOX_BYTES, r.action);
+}
+
+// Zero from one place up to another.
+pub fn zero(out: &mut [u8], from: usize, to: usize)
+    requires { ⌜ (from ≤ to) × (to ≤ length (now out)) ⌝ }
+    ensures { λ r. ⌜ now (out .exit) ≡ zeroed from to (now (out .entry)) ⌝ }
+{
+    let mut i = from;
+    while i < to {
+        out[i] = 0;
+        i += 1;
+    }
+}
+
+// The content at the front, zero behind it up to an end.
+pub fn fill(out: &mut [u8], end: usize, content: &[u8])
+    requires { ⌜ (length (now content) ≤ end) × (end ≤ length (now out)) ⌝ }
+    ensures { λ r. ⌜ now (out .exit) ≡ filled end (now (out .entry)) (now (content .entry)) ⌝ }
+{
+    let n = bytes::copy(content, out);
+    zero(out, n, end);
+}
