@@ -62,7 +62,7 @@ unfolding listsIn
 behind-lists f lim s =
     both (λ (a b : Reading (List Rule)). reading (order (a .value) (b .value)) (b .rest)) f (section (lim .gate) s) (λ a. section (lim .own) (a .rest))
 
-order-ended : (lim : Limits) (s : List ℕ) → orderIn lim s ≡ andThen (listsIn lim s) (λ r. ended r (r .value))
+pub order-ended : (lim : Limits) (s : List ℕ) → orderIn lim s ≡ andThen (listsIn lim s) (λ r. ended r (r .value))
 unfolding orderIn
 order-ended lim s = behind-lists (λ (r : Reading Order). ended r (r .value)) lim s
 

@@ -60,7 +60,7 @@ pub record GroupGood (lim : Limits) (n total : ℕ) (s : List ℕ) (r : Reading 
   pub reads : groupsIn lim n (total + countIn s) (drop (groupSize (countIn s)) s) ≡ accepted later
   pub whole : behind (groupBoxes s) later ≡ r
 
-group-good :
+pub group-good :
     (lim : Limits) (n total : ℕ) (s : List ℕ) (r : Reading (List (List Region)))
     → groupsIn lim (suc n) total s ≡ accepted r → GroupGood lim n total s r
 unfolding groupsIn
@@ -196,7 +196,7 @@ pub record PairGood (lim : Limits) (p : Pair) : Type 0 where
   pub own : listRefusal (lim .own) (p .order .own) ≡ 0
   pub groups : GroupsGood lim (denies (p .order .gate)) (length (p .order .own)) (p .groups)
 
-pair-lists :
+pub pair-lists :
     (lim : Limits) (s : List ℕ)
     → pairIn lim s ≡ andThen (listsIn lim s) (λ r. groupSection lim (r .value .gate) (r .value .own) (r .rest))
 unfolding pairIn
