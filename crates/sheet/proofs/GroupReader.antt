@@ -24,7 +24,7 @@ use Rattle.sheet.specs.Readers.{withTotal, groupsFrom, groupsHeard, Grou
 use Rattle.sheet.specs.declared.Groups.{Groups}
 use Rattle.sheet.specs.declared.Groups.the-variants.{Boxes, Fault}
 use Rattle.sheet.proofs.Pairs.{ProperGroup, GroupGood, group-good}
-use Rattle.sheet.proofs.OrderReader.{part-from}
+use Rattle.sheet.proofs.Parts.{part-from}
 
 pub one-group : (s : List ℕ) → length (together (groupsFrom 1 s)) ≡ countIn s
 unfolding together groupsFrom

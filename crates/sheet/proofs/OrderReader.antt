@@ -4,7 +4,7 @@ use mathlib.Core.List.{List}
 use Prim.Native.Nat.{ℕ, _+_, _-_, _<_, _≤_}
 use native.Mathlib.Omega.{arith}
 use lib.ListN.{length, take, drop, length-drop}
-use lib.Seq.{take-all, drop-drop}
+use lib.Seq.{drop-drop}
 use borrow.Author.Tests.{eq-eqb, ne-eqb}
 use Rattle.policy.specs.Fields.{limits}
 use Rattle.policy.specs.Refusals.{accepted, refused, numberOf}
@@ -32,11 +32,8 @@ use Rattle.sheet.specs.declared.Lists.the-variants as L
 use Rattle.sheet.specs.declared.OrderParts.{OrderParts}
 use Rattle.sheet.specs.declared.OrderParts.the-variants as O
 use Rattle.sheet.proofs.Orders.{order-ended}
+use Rattle.sheet.proofs.Parts.{part-from}
 use Rattle.sheet.proofs.SectionReader.{section-fault, section-rules, section-place}
-
--- The part of a slice from a place on.
-pub part-from : (s : List ℕ) (at : ℕ) → take (length s - at) (drop at s) ≡ drop at s
-part-from s at = take-all (length s - at) (drop at s) (rw length-drop (omega arith))
 
 lists-faulty : {s : List ℕ} (f : Refusal) → listsIn limits s ≡ refused (numberOf f) → ListsRead s (L.Fault f)
 unfolding listsHeard ListsPlaced

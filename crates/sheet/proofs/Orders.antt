@@ -129,6 +129,12 @@ order-back lim o g w =
     let e : listsIn lim (orderBytes o) ≡ unless n (reading o []) = rw append-nil at (lists-back lim o [] g w) in
     order-ended lim (orderBytes o) ∙ rw e (unless-then n (reading o []) _ o refl)
 
+pub order-again :
+    (lim : Limits) (o : Order) → lim .gate < 65536 → lim .own < 65536 → listRefusal (lim .gate) (o .gate) ≡ 0 → listRefusal (lim .own) (o .own) ≡ 0
+    → orderIn lim (orderBytes o) ≡ accepted o
+order-again lim o g w e f =
+    order-back lim o (faultless-fits (lim .gate) (o .gate) g e) (faultless-fits (lim .own) (o .own) w f) ∙ rw (e, f) refl
+
 -- What was accepted: A and B of an order sheet, and nothing behind them.
 pub order-lists : (lim : Limits) (s : List ℕ) (o : Order) → orderIn lim s ≡ accepted o → listsIn lim s ≡ accepted (reading o [])
 order-lists lim s o e =
@@ -150,6 +156,9 @@ unfolding listIn
 list-back most l h =
     let e : section most (sectionBytes l) ≡ unless (listRefusal most l) (reading l []) = rw append-nil at (section-back most l [] (h .rules) (h .count)) in
     rw e (unless-then (listRefusal most l) (reading l []) _ l refl)
+
+pub list-again : (most : ℕ) (l : List Rule) → most < 65536 → listRefusal most l ≡ 0 → listIn most (sectionBytes l) ≡ accepted l
+list-again most l h e = list-back most l (faultless-fits most l h e) ∙ rw e refl
 
 pub list-section : (most : ℕ) (s : List ℕ) (l : List Rule) → listIn most s ≡ accepted l → section most s ≡ accepted (reading l [])
 unfolding listIn

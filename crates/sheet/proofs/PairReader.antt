@@ -35,8 +35,9 @@ use Rattle.sheet.specs.declared.Groups.{Groups}
 use Rattle.sheet.specs.declared.Groups.the-variants as G
 use Rattle.sheet.specs.declared.PairParts.{PairParts}
 use Rattle.sheet.specs.declared.PairParts.the-variants as P
+use Rattle.sheet.proofs.Parts.{part-from}
 use Rattle.sheet.proofs.Pairs.{pair-lists}
-use Rattle.sheet.proofs.OrderReader.{part-from, lists-fault, lists-parts, lists-place}
+use Rattle.sheet.proofs.OrderReader.{lists-fault, lists-parts, lists-place}
 use Rattle.sheet.proofs.GroupReader.{groups-fault, groups-boxes, groups-place}
 
 pair-faulty : {s : List ℕ} (f : Refusal) → pairIn limits s ≡ refused (numberOf f) → PairRead s (P.Fault f)
