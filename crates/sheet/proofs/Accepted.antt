@@ -1,14 +1,13 @@
 -- What a caller knows once a reader has accepted: the lists and groups, and that the bytes are exactly theirs.
 -- Assumes nothing.
-use mathlib.Core.Path.{_≡_, refl, ap, sym, _∙_}
+use mathlib.Core.Path.{_≡_, ap, sym, _∙_}
 use mathlib.Core.List.{List, _++_, append-assoc}
-use Prim.Native.Nat.{ℕ, _+_, _*_, _-_, _<_, _≤_}
+use Prim.Native.Nat.{ℕ, _+_, _-_, _<_}
 use native.Mathlib.Omega.{arith}
-use lib.ListN.{length, take, drop, length-append, length-drop}
+use lib.ListN.{length, take, drop, length-append}
 use lib.Seq.{take-at, drop-at, drop-drop}
 use Rattle.lists.specs.Lists.{Each}
-use Rattle.policy.specs.Fields.{countSize, Limits, limits}
-use Rattle.policy.specs.Rules.{Rule}
+use Rattle.policy.specs.Fields.{countSize, limits}
 use Rattle.policy.specs.Refusals.{accepted, refused, numberOf}
 use Rattle.policy.specs.Move.{Order, Pair, listRefusal}
 use Rattle.policy.specs.Edit.{denies}
@@ -16,26 +15,10 @@ use Rattle.policy.specs.declared.Refusal.{Refusal}
 use Rattle.wire.specs.Numbers.{numberBytes, Byte}
 use Rattle.wire.proofs.Numbers.{numberBytes-length}
 use Rattle.wire.proofs.Records.{rulesIn-length}
-use Rattle.sheet.specs.Sections.{countIn, sectionSize, sectionBytes}
+use Rattle.sheet.specs.Sections.{sectionSize, sectionBytes}
 use Rattle.sheet.specs.Orders.{orderIn, orderBytes, listIn}
 use Rattle.sheet.specs.Pairs.{groupsBytes, pairIn, pairBytes}
-use Rattle.sheet.specs.Readers.{
-  rulesOf,
-  listHeard,
-  ListPlace,
-  ListPlaced,
-  ListRead,
-  listsOf,
-  ListsPlace,
-  orderHeard,
-  OrderPlaced,
-  OrderRead,
-  pairOf,
-  pairHeard,
-  PairPlace,
-  PairPlaced,
-  PairRead,
-}
+use Rattle.sheet.specs.Readers.{rulesOf, listHeard, ListPlace, ListPlaced, ListRead, listsOf, ListsPlace, orderHeard, OrderPlaced, OrderRead, pairOf, pairHeard, PairPlace, PairPlaced, PairRead}
 use Rattle.sheet.specs.declared.Section.{Section}
 use Rattle.sheet.specs.declared.Section.the-variants as S
 use Rattle.sheet.specs.declared.OrderParts.{OrderParts}
@@ -151,7 +134,7 @@ pair-accepted {s} x b n m middle third boxes e =
       gateBytes = sym (ap (take middle) (sym whole) ∙ take-at gate (own ++ (head ++ rest)) middle lg);
       ownBytes = sym (ap (take (sectionSize m)) (sym from) ∙ take-at own (head ++ rest) (sectionSize m) lo);
       listsBytes = sym (ap (take third) (sym k) ∙ take-at (gate ++ own) (head ++ rest) third lt);
-      countBytes = ap (numberBytes countSize) (sym (g .groups .count)) ∙ c;
+      countBytes = ap (numberBytes countSize) (sym (g .counted)) ∙ c;
       groupBytes =
           sym (sym (drop-drop countSize third s)
           ∙ (ap (drop countSize) (sym behind) ∙ drop-at head rest countSize (numberBytes-length countSize (length (p .groups)))));

@@ -10,26 +10,13 @@ use Rattle.policy.specs.Fields.{limits}
 use Rattle.policy.specs.Refusals.{accepted, refused, numberOf}
 use Rattle.policy.specs.declared.Refusal.{Refusal}
 use Rattle.policy.specs.declared.Refusal.the-variants.{LengthWrong}
-use Rattle.sheet.specs.Sections.{Reading, reading, section}
-use Rattle.sheet.specs.Orders.{ended, orderIn}
-use Rattle.sheet.specs.Readers.{
-  SectionPlace,
-  SectionRead,
-  listsIn,
-  listsOf,
-  listsHeard,
-  ListsPlace,
-  ListsPlaced,
-  ListsRead,
-  orderHeard,
-  OrderPlaced,
-  OrderRead,
-}
+use Rattle.sheet.specs.Sections.{reading}
+use Rattle.sheet.specs.Orders.{orderIn}
+use Rattle.sheet.specs.Readers.{SectionRead, listsIn, listsOf, listsHeard, ListsPlace, ListsPlaced, ListsRead, orderHeard, OrderPlaced, OrderRead}
 use Rattle.sheet.specs.declared.Section.{Section}
 use Rattle.sheet.specs.declared.Section.the-variants as S
 use Rattle.sheet.specs.declared.Lists.{Lists}
 use Rattle.sheet.specs.declared.Lists.the-variants as L
-use Rattle.sheet.specs.declared.OrderParts.{OrderParts}
 use Rattle.sheet.specs.declared.OrderParts.the-variants as O
 use Rattle.sheet.proofs.Orders.{order-ended}
 use Rattle.sheet.proofs.Parts.{part-from}
@@ -39,7 +26,7 @@ lists-faulty : {s : List ℕ} (f : Refusal) → listsIn limits s ≡ refused (nu
 unfolding listsHeard ListsPlaced
 lists-faulty f e = record { says = sym e; place = tt }
 
-pub of-part : {most : ℕ} (s : List ℕ) (at : ℕ) {r : Section} → SectionRead most (take (length s - at) (drop at s)) r → SectionRead most (drop at s) r
+of-part : {most : ℕ} (s : List ℕ) (at : ℕ) {r : Section} → SectionRead most (take (length s - at) (drop at s)) r → SectionRead most (drop at s) r
 of-part s at x = rw (part-from s at) at x
 
 -- Over any limits, so that a wrong limit is refused at the contract, not here.

@@ -9,8 +9,8 @@ use lib.Seq.{take-at}
 use borrow.Author.Tests.{le-leb}
 use Rattle.lists.specs.Lists.{Each}
 use Rattle.policy.specs.Fields.{limits}
-use Rattle.policy.specs.Refusals.{Outcome, accepted, refused, unless, orElse, said}
-use Rattle.policy.specs.Move.{Order, listRefusal}
+use Rattle.policy.specs.Refusals.{Outcome, accepted, refused, said}
+use Rattle.policy.specs.Move.{Order}
 use Rattle.policy.specs.declared.Answer.{Answer}
 use Rattle.policy.specs.declared.Answer.the-variants.{Length}
 use Rattle.policy.proofs.Answers.{said-once}
@@ -21,14 +21,7 @@ use Rattle.sheet.specs.Orders.{order, orderIn, orderBytes, listIn, gateS
 use Rattle.sheet.specs.Split.{Split, splitOf, splitSaid, splitGate, splitOwn}
 use Rattle.sheet.specs.Join.{Join, joinOf, joinSaid, joinSheet}
 use Rattle.sheet.proofs.Outcomes.{test-accepted, through}
-use Rattle.sheet.proofs.Orders.{
-  order-again,
-  order-faultless,
-  order-written-back,
-  list-again,
-  list-faultless,
-  list-written-back,
-}
+use Rattle.sheet.proofs.Orders.{order-again, order-faultless, order-written-back, list-again, list-faultless, list-written-back}
 
 content-front : (end : ℕ) (out content : List ℕ) (n : ℕ) → n ≡ length content → take n (filled end out content) ≡ content
 unfolding filled

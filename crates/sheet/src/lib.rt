@@ -12,7 +12,7 @@ ghost use mathlib.Core.List.{_++_};
 ghost use Prim.Native.Nat.{_+_, _≤_};
 ghost use lib.ListN.{length, drop};
 ghost use Rattle.lists.specs.Lists.{every};
-ghost use Rattle.policy.specs.Fields.{highest, countSize, boxSize};
+ghost use Rattle.policy.specs.Fields.{highest, countSize};
 ghost use Rattle.policy.specs.Ranges.{proper};
 ghost use Rattle.policy.specs.Rules.{sound};
 ghost use Rattle.policy.specs.Edit.{denies};
@@ -20,15 +20,7 @@ ghost use Rattle.wire.specs.Records.{boxesIn};
 ghost use Rattle.wire.specs.Buffers.{filled};
 ghost use Rattle.sheet.specs.Sections.{sectionSize};
 ghost use Rattle.sheet.specs.Pairs.{groupSize};
-ghost use Rattle.sheet.specs.Readers.{
-  rulesOf,
-  SectionRead,
-  ListRead,
-  ListsRead,
-  OrderRead,
-  GroupsRead,
-  PairRead,
-};
+ghost use Rattle.sheet.specs.Readers.{rulesOf, SectionRead, ListRead, ListsRead, OrderRead, GroupsRead, PairRead};
 ghost use Rattle.sheet.specs.Split.{Split};
 ghost use Rattle.sheet.specs.Join.{Join};
 
