@@ -9,7 +9,7 @@ use Rattle.policy.specs.Fields.{boxSize, recordSize, Limits, limits}
 use Rattle.policy.specs.Ranges.{Region}
 use Rattle.policy.specs.Cut.{group}
 use Rattle.policy.specs.Move.{over}
-use Rattle.policy.specs.Edit.{allowsIn}
+use Rattle.policy.specs.Rules.{allowsIn}
 use Rattle.wire.specs.Records.{boxesBytes, ruleIn, rulesIn}
 use Rattle.groups.specs.declared.Worked.{Worked}
 use Rattle.groups.specs.declared.Worked.the-variants.{Boxes, TooMany}

@@ -1,9 +1,11 @@
 -- Laws on lists that the logic's own library lacks. Assumes nothing.
-use mathlib.Core.Path.{_≡_, refl, ap}
+use mathlib.Core.Path.{_≡_, refl, ap, _∙_}
 use mathlib.Core.List.{List, [], _∷_, _++_, map}
 use mathlib.Core.Bool.{Bool, true}
-use Prim.Native.Nat.{ℕ}
-use lib.ListN.{take, drop, take-append-drop}
+use Prim.Native.Nat.{ℕ, suc, _+_}
+use native.Mathlib.Omega.{arith}
+use lib.ListN.{length, set, take, drop, take-append-drop}
+use lib.Seq.{sets}
 use Rattle.lists.specs.Lists.{Each}
 
 pub map-append {ℓ} : {A B : Type ℓ} (f : A → B) (l k : List A) → map f (l ++ k) ≡ map f l ++ map f k
@@ -17,6 +19,12 @@ append-none (a ∷ l) = ap (λ (r : List _). a ∷ r) (append-none l)
 -- A list is its part before a place, a stretch of n, and the rest.
 pub three-parts {ℓ} : {A : Type ℓ} (i n : ℕ) (l : List A) → take i l ++ (take n (drop i l) ++ drop n (drop i l)) ≡ l
 three-parts i n l = rw (take-append-drop n (drop i l), take-append-drop i l)
+
+-- A run of stores in two parts.
+pub sets-append {ℓ} : {A : Type ℓ} (l : List A) (i : ℕ) (u v : List A) → sets l i (u ++ v) ≡ sets (sets l i u) (i + length u) v
+sets-append l i [] v = ap (λ (n : ℕ). sets l n v) (omega arith)
+sets-append l i (a ∷ u) v =
+    sets-append (set l i a) (suc i) u v ∙ ap (λ (n : ℕ). sets (sets (set l i a) (suc i) u) n v) (omega arith)
 
 module _ {A : Type 0} where
   pub each-append : (P : A → Type 0) (l k : List A) → Each P l → Each P k → Each P (l ++ k)

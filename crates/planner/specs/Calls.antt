@@ -46,10 +46,10 @@ moveLent lim out work = roomFor (pairSize lim) out && roomFor (workSize lim) wor
 unfoldable pub moveOf : Limits → List ℕ → Bool → Outcome Pair
 moveOf lim s lent = test lent 1 (andThen (orderIn lim s) (planOf lim))
 
-pub record Moves (s out work : List ℕ) (r : Answer) (out′ work′ : List ℕ) : Type 0 where
-  pub answer : said r ≡ lengthOf pairBytes (moveOf limits s (moveLent limits out work))
-  pub sheet : out′ ≡ written pairBytes (pairSize limits) out (moveOf limits s (moveLent limits out work))
-  pub work : work′ ≡ workAfter limits (moveLent limits out work) work
+pub record Moves (s out w : List ℕ) (r : Answer) (out′ w′ : List ℕ) : Type 0 where
+  pub answer : said r ≡ lengthOf pairBytes (moveOf limits s (moveLent limits out w))
+  pub sheet : out′ ≡ written pairBytes (pairSize limits) out (moveOf limits s (moveLent limits out w))
+  pub work : w′ ≡ workAfter limits (moveLent limits out w) w
 
 -- Check: 1, what reading the pair sheet gives, 6, 8.
 unfoldable pub checkedOf : Limits → Pair → Outcome Pair
@@ -63,9 +63,9 @@ unfoldable pub yes : Outcome Pair → Outcome ℕ
 yes (accepted p) = accepted 0
 yes (refused n) = refused n
 
-pub record Checks (s work : List ℕ) (r : Answer) (work′ : List ℕ) : Type 0 where
-  pub answer : said r ≡ yes (checkOf limits s (roomFor (workSize limits) work))
-  pub work : work′ ≡ workAfter limits (roomFor (workSize limits) work) work
+pub record Checks (s w : List ℕ) (r : Answer) (w′ : List ℕ) : Type 0 where
+  pub answer : said r ≡ yes (checkOf limits s (roomFor (workSize limits) w))
+  pub work : w′ ≡ workAfter limits (roomFor (workSize limits) w) w
 
 -- Cell list and gate list: check, then the list that is wanted.
 unfoldable pub cellBytes : Pair → List ℕ
@@ -83,7 +83,7 @@ gateOneSize = sectionSize 1
 abbrev pub listLent : Limits → ℕ → List ℕ → List ℕ → Bool
 listLent lim size out work = roomFor size out && roomFor (workSize lim) work
 
-pub record Lists (bytes : Pair → List ℕ) (size : ℕ) (s out work : List ℕ) (r : Answer) (out′ work′ : List ℕ) : Type 0 where
-  pub answer : said r ≡ lengthOf bytes (checkOf limits s (listLent limits size out work))
-  pub list : out′ ≡ written bytes size out (checkOf limits s (listLent limits size out work))
-  pub work : work′ ≡ workAfter limits (listLent limits size out work) work
+pub record Lists (bytes : Pair → List ℕ) (size : ℕ) (s out w : List ℕ) (r : Answer) (out′ w′ : List ℕ) : Type 0 where
+  pub answer : said r ≡ lengthOf bytes (checkOf limits s (listLent limits size out w))
+  pub list : out′ ≡ written bytes size out (checkOf limits s (listLent limits size out w))
+  pub work : w′ ≡ workAfter limits (listLent limits size out w) w

@@ -53,7 +53,7 @@ editLent lim sheet used work = roomFor (pairSize lim) sheet && (leb used (length
 unfoldable pub editedOf : Limits → List ℕ → ℕ → Asked → Bool → Outcome Pair
 editedOf lim sheet used a lent = test lent 1 (andThen (pairIn lim (take used sheet)) (changeOf lim a))
 
-pub record Edits (sheet : List ℕ) (used : ℕ) (a : Asked) (work : List ℕ) (r : Answer) (sheet′ work′ : List ℕ) : Type 0 where
-  pub answer : said r ≡ lengthOf pairBytes (editedOf limits sheet used a (editLent limits sheet used work))
-  pub sheet : sheet′ ≡ written pairBytes (pairSize limits) sheet (editedOf limits sheet used a (editLent limits sheet used work))
-  pub work : work′ ≡ workAfter limits (editLent limits sheet used work) work
+pub record Edits (buffer : List ℕ) (used : ℕ) (a : Asked) (w : List ℕ) (r : Answer) (buffer′ w′ : List ℕ) : Type 0 where
+  pub answer : said r ≡ lengthOf pairBytes (editedOf limits buffer used a (editLent limits buffer used w))
+  pub sheet : buffer′ ≡ written pairBytes (pairSize limits) buffer (editedOf limits buffer used a (editLent limits buffer used w))
+  pub work : w′ ≡ workAfter limits (editLent limits buffer used w) w
