@@ -1,0 +1,5 @@
+pub mod Numbers
+pub mod Items
+pub mod Records
+pub mod Buffers
+pub mod Steps
