@@ -2,11 +2,12 @@
 use mathlib.Core.Path.{_≡_, refl, ap, _∙_}
 use mathlib.Core.List.{List, [], _∷_, _++_, map}
 use mathlib.Core.Bool.{Bool, true}
-use Prim.Native.Nat.{ℕ, suc, _+_}
+use Prim.Native.Nat.{ℕ, zero, suc, _+_}
 use native.Mathlib.Omega.{arith}
 use lib.ListN.{length, set, take, drop, take-append-drop}
 use lib.Seq.{sets}
-use Rattle.lists.specs.Lists.{Each}
+use Rattle.lists.specs.Lists.{Each, every}
+use Rattle.lists.proofs.Tests.{and-true, and-both}
 
 pub map-append {ℓ} : {A B : Type ℓ} (f : A → B) (l k : List A) → map f (l ++ k) ≡ map f l ++ map f k
 map-append f [] k = refl
@@ -41,3 +42,11 @@ module _ {A : Type 0} where
   unfolding Each
   each-imp P Q [] f h = tt
   each-imp P Q (a ∷ l) f h = (f a (h .0), each-imp P Q l f (h .1))
+
+  pub every-take : (f : A → Bool) (n : ℕ) (l : List A) → every f l ≡ true → every f (take n l) ≡ true
+  unfolding every
+  every-take f zero l h = refl
+  every-take f (suc n) [] h = refl
+  every-take f (suc n) (a ∷ l) h =
+      let g = and-true (f a) (every f l) h in
+      and-both (f a) (every f (take n l)) (g .0) (every-take f n l (g .1))

@@ -31,6 +31,12 @@ bytes-at [] i h = omega arith
 bytes-at (b ∷ s) zero h = h .0
 bytes-at (b ∷ s) (suc i) h = bytes-at s i (h .1)
 
+-- What stands in a slice of bytes are bytes.
+pub bytes-all : (s : List ℕ) → ((i : ℕ) → getD s i 0 < 256) → Each Byte s
+unfolding Each
+bytes-all [] f = tt
+bytes-all (b ∷ s) f = (f 0, bytes-all s (λ i. f (suc i)))
+
 pub numberBytes-length : (w x : ℕ) → length (numberBytes w x) ≡ w
 unfolding numberBytes
 numberBytes-length zero x = refl
