@@ -96,7 +96,7 @@ over-append m (s ∷ x) y = rw (over-append m x y) (go (overSlot m s))
     go true = refl
     go false = refl
 
-faults-append : (x y : List Rule) → faults (x ++ y) ≡ orElse (faults x) (faults y)
+pub faults-append : (x y : List Rule) → faults (x ++ y) ≡ orElse (faults x) (faults y)
 unfolding faults
 faults-append [] y = refl
 faults-append (r ∷ x) y = rw (faults-append x y) (sym (orElse-assoc (given (not (sound r)) 4) (faults x) (faults y)))
