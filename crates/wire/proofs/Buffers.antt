@@ -5,7 +5,7 @@ use Prim.Native.Nat.{ℕ, suc, _+_, _-_, _<_, _≤_}
 use native.Mathlib.Omega.{arith}
 use native.Mathlib.Numerals.{add-one}
 use lib.ListN.{length, take, drop, getD, set, replicate, length-append, length-replicate, replicate-append-replicate, take-append-drop}
-use lib.Seq.{take-all, take-at, drop-at, drop-append-add, drop-cons, drop-drop, set-at, length-take-le, append-snoc}
+use lib.Seq.{sets, sets-eq, take-all, take-at, drop-at, drop-append-add, drop-cons, drop-drop, set-at, length-take-le, append-snoc}
 use Rattle.wire.specs.Buffers.{zeroed, filled}
 
 pub zeroed-none : (from : ℕ) (s : List ℕ) → s ≡ zeroed from from s
@@ -47,3 +47,11 @@ filled-over end out c d h =
     let f : drop end (c ++ (replicate (end - length c) 0 ++ drop end out)) ≡ drop end out =
     rw (← append-assoc c (replicate (end - length c) 0) (drop end out)) (drop-at (c ++ replicate (end - length c) 0) (drop end out) end e) in
     rw f
+
+-- Content of exactly the size, stored at the front.
+pub filled-front : (size : ℕ) (out content : List ℕ) → length content ≡ size → size ≤ length out → sets out 0 content ≡ filled size out content
+unfolding filled
+filled-front size out content e h =
+    let n : size - length content ≡ 0 = omega arith in
+    let m : 0 + length content ≡ size = omega arith in
+    sets-eq content out 0 (omega arith) ∙ rw (n, m) refl

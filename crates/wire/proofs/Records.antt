@@ -104,12 +104,15 @@ proper-fits b h = rows-fit fieldTable b refl h
 abbrev pub RuleFits : Rule → Type 0
 RuleFits r = Fits widths (r .region) × (r .action < 256 ^ actionSize)
 
+pub sound-action : (r : Rule) → sound r ≡ true → r .action ≤ 1
+unfolding sound
+sound-action r h = leb-true (r .action) 1 (and-true (proper highest (r .region)) (leb (r .action) 1) h .1)
+
 pub sound-fits : (r : Rule) → sound r ≡ true → RuleFits r
 unfolding sound
 sound-fits r h =
-    let g = and-true (proper highest (r .region)) (leb (r .action) 1) h in
-    let l = leb-true (r .action) 1 (g .1) in
-    (proper-fits (r .region) (g .0), omega arith)
+    let l = sound-action r h in
+    (proper-fits (r .region) (and-true (proper highest (r .region)) (leb (r .action) 1) h .0), omega arith)
 
 -- One box.
 pub boxBytes-length : (b : Region) → Fits widths b → length (boxBytes b) ≡ boxSize

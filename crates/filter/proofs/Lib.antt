@@ -1,0 +1,3 @@
+pub mod Insides
+pub mod Lookups
+pub mod Verdicts
