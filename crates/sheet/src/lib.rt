@@ -1,1 +1,305 @@
-// todo
+// Readers of sections, of order sheets, pair sheets and lists, and the calls that split an order sheet and join one.
+use policy::Answer;
+use policy::BOX_BYTES;
+use policy::COUNT_BYTES;
+use policy::GATE_MOST;
+use policy::OWN_MOST;
+use policy::RECORD_BYTES;
+use policy::Refusal;
+use policy::TOTAL_MOST;
+ghost use mathlib.Core.Path.{_≡_};
+ghost use Prim.Native.Nat.{_≤_};
+ghost use lib.ListN.{length, drop};
+ghost use Rattle.lists.specs.Lists.{every};
+ghost use Rattle.policy.specs.Fields.{highest, countSize, boxSize};
+ghost use Rattle.policy.specs.Ranges.{proper};
+ghost use Rattle.policy.specs.Rules.{sound};
+ghost use Rattle.policy.specs.Edit.{denies};
+ghost use Rattle.wire.specs.Records.{boxesIn};
+ghost use Rattle.sheet.specs.Sections.{sectionSize};
+ghost use Rattle.sheet.specs.Pairs.{groupSize};
+ghost use Rattle.sheet.specs.Readers.{
+  rulesOf,
+  SectionRead,
+  ListRead,
+  ListsRead,
+  OrderRead,
+  GroupsRead,
+  PairRead,
+};
+
+// The largest A list, B list, order sheet and pair sheet.
+pub const GATE_BYTES: usize = COUNT_BYTES + RECORD_BYTES * GATE_MOST;
+
+pub const OWN_BYTES: usize = COUNT_BYTES + RECORD_BYTES * OWN_MOST;
+
+pub const ORDER_BYTES: usize = GATE_BYTES + OWN_BYTES;
+
+pub const PAIR_BYTES: usize = ORDER_BYTES
+    + COUNT_BYTES
+    + COUNT_BYTES * GATE_MOST
+    + BOX_BYTES * (TOTAL_MOST - OWN_MOST);
+
+// A section: how many rules it has and where it ends, or its first fault.
+pub enum Section {
+    Rules { count: usize, next: usize },
+    Fault(Refusal),
+}
+
+// Sections A and B: their counts, where B begins and where it ends.
+enum Lists {
+    Parts {
+        gate: usize,
+        own: usize,
+        middle: usize,
+        third: usize,
+    },
+    Fault(Refusal),
+}
+
+// Groups: how many boxes they have together and where they end.
+enum Groups {
+    Boxes { count: usize, next: usize },
+    Fault(Refusal),
+}
+
+// An order sheet: the counts of A and B, and where B begins.
+pub enum OrderParts {
+    Parts {
+        gate: usize,
+        own: usize,
+        middle: usize,
+    },
+    Fault(Refusal),
+}
+
+// A pair sheet: the counts of A and B, where B and C begin, and how many boxes all groups have.
+pub enum PairParts {
+    Parts {
+        gate: usize,
+        own: usize,
+        middle: usize,
+        third: usize,
+        boxes: usize,
+    },
+    Fault(Refusal),
+}
+
+fn all_sound(s: &[u8], n: usize) -> bool
+    requires { ⌜ sectionSize n ≤ length (now s) ⌝ }
+    ensures { λ r. ⌜ r ≡ every sound (rulesOf n (now (s .entry))) ⌝ }
+{
+    let mut at = COUNT_BYTES;
+    let mut i: usize = 0;
+    while i < n {
+        if !wire::rule_at(s, at).is_sound() {
+            return false;
+        }
+        at += RECORD_BYTES;
+        i += 1;
+    }
+    true
+}
+
+fn all_proper(s: &[u8], n: usize) -> bool
+    requires { ⌜ groupSize n ≤ length (now s) ⌝ }
+    ensures { λ r. ⌜ r ≡ every (proper highest) (boxesIn n (drop countSize (now (s .entry)))) ⌝ }
+{
+    let mut at = COUNT_BYTES;
+    let mut i: usize = 0;
+    while i < n {
+        if !wire::box_at(s, at).is_proper() {
+            return false;
+        }
+        at += BOX_BYTES;
+        i += 1;
+    }
+    true
+}
+
+// The deny rules of the section of n rules that the bytes begin with.
+pub fn count_denies(s: &[u8], n: usize) -> usize
+    requires { ⌜ sectionSize n ≤ length (now s) ⌝ }
+    ensures { λ r. ⌜ r ≡ denies (rulesOf n (now (s .entry))) ⌝ }
+{
+    let mut count: usize = 0;
+    let mut at = COUNT_BYTES;
+    let mut i: usize = 0;
+    while i < n {
+        let rule = wire::rule_at(s, at);
+        if rule.action != 1 {
+            count += 1;
+        }
+        at += RECORD_BYTES;
+        i += 1;
+    }
+    count
+}
+
+// The section at the front of the part of a sheet that is handed over.
+pub fn read_section(s: &[u8], most: usize) -> Section
+    ensures { λ r. ⌜ SectionRead most (now (s .entry)) r ⌝ }
+{
+    if s.len() < COUNT_BYTES {
+        return Section::Fault(Refusal::LengthWrong);
+    }
+    let count = wire::count_at(s, 0);
+    if count < 1 {
+        return Section::Fault(Refusal::CountOutside);
+    }
+    if most < count {
+        return Section::Fault(Refusal::CountOutside);
+    }
+    let next = COUNT_BYTES + RECORD_BYTES * count;
+    if s.len() < next {
+        return Section::Fault(Refusal::LengthWrong);
+    }
+    if !all_sound(s, count) {
+        return Section::Fault(Refusal::RuleBad);
+    }
+    if !wire::box_at(s, next - RECORD_BYTES).is_full() {
+        return Section::Fault(Refusal::NotComplete);
+    }
+    Section::Rules { count, next }
+}
+
+// A list by itself: one section, and nothing behind it.
+pub fn read_list(s: &[u8], most: usize) -> Section
+    ensures { λ r. ⌜ ListRead most (now (s .entry)) r ⌝ }
+{
+    match read_section(s, most) {
+        Section::Fault(f) => Section::Fault(f),
+        Section::Rules { count, next } => {
+            if next < s.len() {
+                return Section::Fault(Refusal::LengthWrong);
+            }
+            Section::Rules { count, next }
+        }
+    }
+}
+
+// Section A, and section B, which begins wherever A ends.
+fn read_lists(s: &[u8]) -> Lists
+    ensures { λ r. ⌜ ListsRead (now (s .entry)) r ⌝ }
+{
+    match read_section(s, GATE_MOST) {
+        Section::Fault(f) => Lists::Fault(f),
+        Section::Rules {
+            count: gate,
+            next: middle,
+        } => match read_section(&s[middle..], OWN_MOST) {
+            Section::Fault(f) => Lists::Fault(f),
+            Section::Rules { count: own, next } => Lists::Parts {
+                gate,
+                own,
+                middle,
+                third: middle + next,
+            },
+        },
+    }
+}
+
+pub fn read_order(s: &[u8]) -> OrderParts
+    ensures { λ r. ⌜ OrderRead (now (s .entry)) r ⌝ }
+{
+    match read_lists(s) {
+        Lists::Fault(f) => OrderParts::Fault(f),
+        Lists::Parts {
+            gate,
+            own,
+            middle,
+            third,
+        } => {
+            if third < s.len() {
+                return OrderParts::Fault(Refusal::LengthWrong);
+            }
+            OrderParts::Parts { gate, own, middle }
+        }
+    }
+}
+
+// The group at the front of the bytes, with what boxes and own rules came to before it.
+fn read_group(s: &[u8], total: usize, most: usize) -> Groups
+    requires { ⌜ total ≤ most ⌝ }
+    ensures { λ r. ⌜ GroupsRead most 1 total (now (s .entry)) r ⌝ }
+{
+    if s.len() < COUNT_BYTES {
+        return Groups::Fault(Refusal::LengthWrong);
+    }
+    let count = wire::count_at(s, 0);
+    if most - total < count {
+        return Groups::Fault(Refusal::TooManyBoxes);
+    }
+    let next = COUNT_BYTES + BOX_BYTES * count;
+    if s.len() < next {
+        return Groups::Fault(Refusal::LengthWrong);
+    }
+    if !all_proper(s, count) {
+        return Groups::Fault(Refusal::RuleBad);
+    }
+    Groups::Boxes { count, next }
+}
+
+// So many groups one after another.
+fn read_groups(s: &[u8], n: usize, own: usize, most: usize) -> Groups
+    requires { ⌜ own ≤ most ⌝ }
+    ensures { λ r. ⌜ GroupsRead most n own (now (s .entry)) r ⌝ }
+{
+    let mut total = own;
+    let mut at: usize = 0;
+    let mut i: usize = 0;
+    while i < n {
+        match read_group(&s[at..], total, most) {
+            Groups::Fault(f) => return Groups::Fault(f),
+            Groups::Boxes { count, next } => {
+                total += count;
+                at += next;
+            }
+        }
+        i += 1;
+    }
+    Groups::Boxes {
+        count: total - own,
+        next: at,
+    }
+}
+
+// A, B and, behind them, section C: the count of A's deny rules, and so many groups.
+pub fn read_pair(s: &[u8]) -> PairParts
+    ensures { λ r. ⌜ PairRead (now (s .entry)) r ⌝ }
+{
+    match read_lists(s) {
+        Lists::Fault(f) => PairParts::Fault(f),
+        Lists::Parts {
+            gate,
+            own,
+            middle,
+            third,
+        } => {
+            let left = s.len() - third;
+            if left < COUNT_BYTES {
+                return PairParts::Fault(Refusal::LengthWrong);
+            }
+            let groups = count_denies(s, gate);
+            if wire::count_at(s, third) != groups {
+                return PairParts::Fault(Refusal::GroupsDiffer);
+            }
+            let from = third + COUNT_BYTES;
+            match read_groups(&s[from..], groups, own, TOTAL_MOST) {
+                Groups::Fault(f) => PairParts::Fault(f),
+                Groups::Boxes { count: boxes, next } => {
+                    if next < s.len() - from {
+                        return PairParts::Fault(Refusal::LengthWrong);
+                    }
+                    PairParts::Parts {
+                        gate,
+                        own,
+                        middle,
+                        third,
+                        boxes,
+                    }
+                }
+            }
+        }
+    }
+}

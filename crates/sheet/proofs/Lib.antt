@@ -1,0 +1,10 @@
+pub mod Outcomes
+pub mod Counts
+pub mod Sections
+pub mod Orders
+pub mod Pairs
+pub mod Loops
+pub mod SectionReader
+pub mod OrderReader
+pub mod GroupReader
+pub mod PairReader

@@ -1,0 +1,166 @@
+-- An order sheet, and a list by itself, read back as what was written, and what reads well is what would be written.
+-- Assumes nothing.
+use mathlib.Core.Path.{_≡_, refl, ap, sym, _∙_}
+use mathlib.Core.List.{List, [], _∷_, _++_, append-assoc, append-nil}
+use mathlib.Core.Bool.{true}
+use Prim.Native.Nat.{ℕ, zero, suc, _<_}
+use native.Mathlib.Omega.{arith}
+use lib.Dec.{eqb}
+use lib.ListN.{length, drop}
+use borrow.Author.Tests.{eqb-true}
+use Rattle.lists.specs.Lists.{Each}
+use Rattle.policy.specs.Fields.{Limits}
+use Rattle.policy.specs.Rules.{Rule, sound}
+use Rattle.policy.specs.Refusals.{Outcome, accepted, refused, andThen, orElse, unless}
+use Rattle.policy.specs.Move.{Order, listRefusal}
+use Rattle.wire.specs.Numbers.{Byte}
+use Rattle.wire.proofs.Numbers.{bytes-drop}
+use Rattle.wire.proofs.Records.{RuleFits, sound-fits}
+use Rattle.sheet.specs.Sections.{Reading, reading, section, sectionSize, sectionBytes}
+use Rattle.sheet.specs.Orders.{ended, order, orderIn, orderBytes, listIn}
+use Rattle.sheet.specs.Readers.{listsIn}
+use Rattle.sheet.proofs.Outcomes.{test-accepted, through, each-every, faultless}
+use Rattle.sheet.proofs.Sections.{section-good, section-written-back, section-back}
+
+-- A list whose numbers fit their bytes.
+pub record ListFits (l : List Rule) : Type 0 where
+  pub rules : Each RuleFits l
+  pub count : length l < 65536
+
+pub faultless-fits : (most : ℕ) (l : List Rule) → most < 65536 → listRefusal most l ≡ 0 → ListFits l
+faultless-fits most l h e =
+    let g = faultless most l e in
+    record { rules = each-every sound RuleFits sound-fits l (g .sounds); count = omega arith }
+
+pub nothing-left : {A : Type 0} (l : List A) → length l ≡ 0 → l ≡ []
+nothing-left [] e = refl
+nothing-left (x ∷ l) e = absurd (omega arith)
+
+pub ended-accepted : {A B : Type 0} (r : Reading A) (v w : B) → ended r v ≡ accepted w → (v ≡ w) × (r .rest ≡ [])
+ended-accepted r v w e =
+    let a = test-accepted (eqb (length (r .rest)) 0) 3 _ w e in
+    (cc (a .1), nothing-left (r .rest) (eqb-true (length (r .rest)) 0 (a .0)))
+
+-- Going on from A and B.
+module _ {A B C D : Type 0} (g : A → B → C) (h : C → Outcome D) where
+  second : (a : A) (y : Outcome B) → andThen y (λ b. h (g a b)) ≡ andThen (andThen y (λ b. accepted (g a b))) h
+  second a (accepted b) = refl
+  second a (refused n) = refl
+
+  both : (x : Outcome A) (f : A → Outcome B)
+      → andThen x (λ a. andThen (f a) (λ b. h (g a b))) ≡ andThen (andThen x (λ a. andThen (f a) (λ b. accepted (g a b)))) h
+  both (accepted a) f = second a (f a)
+  both (refused n) f = refl
+
+abbrev pub behindLists : {A : Type 0} → (Reading Order → Outcome A) → Limits → List ℕ → Outcome A
+behindLists f lim s =
+    andThen (section (lim .gate) s)
+    (λ a. andThen (section (lim .own) (a .rest)) (λ b. f (reading (order (a .value) (b .value)) (b .rest))))
+
+pub behind-lists : {A : Type 0} (f : Reading Order → Outcome A) (lim : Limits) (s : List ℕ) → behindLists f lim s ≡ andThen (listsIn lim s) f
+unfolding listsIn
+behind-lists f lim s =
+    both (λ (a b : Reading (List Rule)). reading (order (a .value) (b .value)) (b .rest)) f (section (lim .gate) s) (λ a. section (lim .own) (a .rest))
+
+pub order-ended : (lim : Limits) (s : List ℕ) → orderIn lim s ≡ andThen (listsIn lim s) (λ r. ended r (r .value))
+unfolding orderIn
+order-ended lim s = behind-lists (λ (r : Reading Order). ended r (r .value)) lim s
+
+-- A and B that were accepted.
+pub record ListsGood (lim : Limits) (s : List ℕ) (r : Reading Order) : Type 0 where
+  pub middle : List ℕ
+  pub gate : section (lim .gate) s ≡ accepted (reading (r .value .gate) middle)
+  pub own : section (lim .own) middle ≡ accepted (reading (r .value .own) (r .rest))
+
+pub lists-good : (lim : Limits) (s : List ℕ) (r : Reading Order) → listsIn lim s ≡ accepted r → ListsGood lim s r
+unfolding listsIn
+lists-good lim s r e =
+    let a = through (section (lim .gate) s) _ r e in
+    let b = through (section (lim .own) (a .value .rest)) _ r (a .then) in
+    let p : reading (order (a .value .value) (b .value .value)) (b .value .rest) ≡ r = cc (b .then) in
+    record {
+      middle = a .value .rest;
+      gate = a .first ∙ (λ i. accepted (reading (p i .value .gate) (a .value .rest)));
+      own = b .first ∙ (λ i. accepted (reading (p i .value .own) (p i .rest)));
+    }
+
+module _ (lim : Limits) (s : List ℕ) (r : Reading Order) (e : listsIn lim s ≡ accepted r) where
+  pub lists-faultless : (listRefusal (lim .gate) (r .value .gate) ≡ 0) × (listRefusal (lim .own) (r .value .own) ≡ 0)
+  lists-faultless =
+      let g = lists-good lim s r e in
+      (section-good (lim .gate) s (reading (r .value .gate) (g .middle)) (g .gate) .list, section-good (lim .own) (g .middle) (reading (r .value .own) (r .rest)) (g .own) .list)
+
+  pub lists-written-back : Each Byte s → orderBytes (r .value) ++ r .rest ≡ s
+  unfolding orderBytes
+  lists-written-back b =
+      let g = lists-good lim s r e in
+      let a : Reading (List Rule) = reading (r .value .gate) (g .middle) in
+      let m : Each Byte (g .middle) = rw (section-good (lim .gate) s a (g .gate) .rest) (bytes-drop (sectionSize (length (a .value))) s b) in
+      append-assoc (sectionBytes (r .value .gate)) (sectionBytes (r .value .own)) (r .rest)
+      ∙ (ap (λ (l : List ℕ). sectionBytes (r .value .gate) ++ l) (section-written-back (lim .own) (g .middle) (reading (r .value .own) (r .rest)) m (g .own))
+      ∙ section-written-back (lim .gate) s a b (g .gate))
+
+unless-then : {A B : Type 0} (n : ℕ) (a : A) (f : A → Outcome B) (b : B) → f a ≡ accepted b → andThen (unless n a) f ≡ unless n b
+unless-then zero a f b e = e
+unless-then (suc n) a f b e = refl
+
+unless-both : {A B : Type 0} (n m : ℕ) (a : A) (f : A → Outcome B) (b : B) → f a ≡ unless m b → andThen (unless n a) f ≡ unless (orElse n m) b
+unless-both zero m a f b e = e
+unless-both (suc n) m a f b e = refl
+
+pub lists-back :
+    (lim : Limits) (o : Order) (t : List ℕ) → ListFits (o .gate) → ListFits (o .own)
+    → listsIn lim (orderBytes o ++ t) ≡ unless (orElse (listRefusal (lim .gate) (o .gate)) (listRefusal (lim .own) (o .own))) (reading o t)
+unfolding listsIn orderBytes
+lists-back lim o t g w =
+    let n : ℕ = listRefusal (lim .gate) (o .gate) in
+    let m : ℕ = listRefusal (lim .own) (o .own) in
+    let rest : List ℕ = sectionBytes (o .own) ++ t in
+    rw (append-assoc, section-back (lim .gate) (o .gate) rest (g .rules) (g .count))
+    (unless-both n m (reading (o .gate) rest) _ (reading o t)
+    (rw (section-back (lim .own) (o .own) t (w .rules) (w .count)) (unless-then m (reading (o .own) t) _ (reading o t) refl)))
+
+-- The order sheet: what is written reads back as itself, or with the first number that its lists are refused with.
+pub order-back :
+    (lim : Limits) (o : Order) → ListFits (o .gate) → ListFits (o .own)
+    → orderIn lim (orderBytes o) ≡ unless (orElse (listRefusal (lim .gate) (o .gate)) (listRefusal (lim .own) (o .own))) o
+order-back lim o g w =
+    let n : ℕ = orElse (listRefusal (lim .gate) (o .gate)) (listRefusal (lim .own) (o .own)) in
+    let e : listsIn lim (orderBytes o) ≡ unless n (reading o []) = rw append-nil at (lists-back lim o [] g w) in
+    order-ended lim (orderBytes o) ∙ rw e (unless-then n (reading o []) _ o refl)
+
+-- What was accepted: A and B of an order sheet, and nothing behind them.
+pub order-lists : (lim : Limits) (s : List ℕ) (o : Order) → orderIn lim s ≡ accepted o → listsIn lim s ≡ accepted (reading o [])
+order-lists lim s o e =
+    let a = through (listsIn lim s) _ o (sym (order-ended lim s) ∙ e) in
+    let b = ended-accepted (a .value) (a .value .value) o (a .then) in
+    a .first ∙ (λ i. accepted (reading (b .0 i) (b .1 i)))
+
+module _ (lim : Limits) (s : List ℕ) (o : Order) (e : orderIn lim s ≡ accepted o) where
+  pub order-faultless : (listRefusal (lim .gate) (o .gate) ≡ 0) × (listRefusal (lim .own) (o .own) ≡ 0)
+  order-faultless = lists-faultless lim s (reading o []) (order-lists lim s o e)
+
+  -- What reads well is what would be written.
+  pub order-written-back : Each Byte s → orderBytes o ≡ s
+  order-written-back b = sym (append-nil (orderBytes o)) ∙ lists-written-back lim s (reading o []) (order-lists lim s o e) b
+
+-- The same of a list by itself.
+pub list-back : (most : ℕ) (l : List Rule) → ListFits l → listIn most (sectionBytes l) ≡ unless (listRefusal most l) l
+unfolding listIn
+list-back most l h =
+    let e : section most (sectionBytes l) ≡ unless (listRefusal most l) (reading l []) = rw append-nil at (section-back most l [] (h .rules) (h .count)) in
+    rw e (unless-then (listRefusal most l) (reading l []) _ l refl)
+
+pub list-section : (most : ℕ) (s : List ℕ) (l : List Rule) → listIn most s ≡ accepted l → section most s ≡ accepted (reading l [])
+unfolding listIn
+list-section most s l e =
+    let a = through (section most s) _ l e in
+    let b = ended-accepted (a .value) (a .value .value) l (a .then) in
+    a .first ∙ (λ i. accepted (reading (b .0 i) (b .1 i)))
+
+module _ (most : ℕ) (s : List ℕ) (l : List Rule) (e : listIn most s ≡ accepted l) where
+  pub list-faultless : listRefusal most l ≡ 0
+  list-faultless = section-good most s (reading l []) (list-section most s l e) .list
+
+  pub list-written-back : Each Byte s → sectionBytes l ≡ s
+  list-written-back b = sym (append-nil (sectionBytes l)) ∙ section-written-back most s (reading l []) b (list-section most s l e)

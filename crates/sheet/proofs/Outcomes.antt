@@ -1,0 +1,97 @@
+-- Laws on outcomes: what follows from an acceptance, and the numbers of a list as tests in their order. Assumes nothing.
+use mathlib.Core.Path.{_≡_, refl, ap, sym, _∙_}
+use mathlib.Core.List.{List, [], _∷_}
+use mathlib.Core.Bool.{Bool, true, false, not, _&&_, _||_}
+use Prim.Native.Nat.{ℕ, zero, suc, _≤_}
+use native.Mathlib.Omega.{arith}
+use lib.Dec.{leb, ltb}
+use lib.ListN.{length}
+use borrow.Author.Tests.{leb-true, leb-false, lt-ltb, le-ltb}
+use Rattle.lists.specs.Lists.{Each, every}
+use Rattle.lists.proofs.Tests.{and-true}
+use Rattle.policy.specs.Rules.{Rule, sound, complete}
+use Rattle.policy.specs.Refusals.{Outcome, accepted, refused, test, andThen, given, orElse, unless, faults}
+use Rattle.policy.specs.Move.{badCount, listRefusal}
+
+module _ {A : Type 0} where
+  pub test-accepted : (b : Bool) (n : ℕ) (x : Outcome A) (v : A) → test b n x ≡ accepted v → (b ≡ true) × (x ≡ accepted v)
+  test-accepted true n x v e = (refl, e)
+  test-accepted false n x v e = let z : _≡_ {A = ℕ} 0 1 = cc in absurd (omega arith)
+
+  pub unless-accepted : (n : ℕ) (a v : A) → unless n a ≡ accepted v → n ≡ 0
+  unless-accepted zero a v e = refl
+  unless-accepted (suc n) a v e = let z : _≡_ {A = ℕ} 0 1 = cc in absurd (omega arith)
+
+  pub each-every : (f : A → Bool) (P : A → Type 0) → ((a : A) → f a ≡ true → P a) → (l : List A) → every f l ≡ true → Each P l
+  unfolding Each every
+  each-every f P g [] h = tt
+  each-every f P g (a ∷ l) h =
+      let k = and-true (f a) (every f l) h in
+      (g a (k .0), each-every f P g l (k .1))
+
+  -- tests in their order, and their numbers in theirs
+  pub in-order :
+      (a b c d : Bool) (x : A) → test a 2 (test b 2 (test c 4 (test d 5 (accepted x))))
+      ≡ unless (orElse (given (not a || not b) 2) (orElse (given (not c) 4) (given (not d) 5))) x
+  in-order true true true true x = refl
+  in-order true true true false x = refl
+  in-order true true false d x = refl
+  in-order true false c d x = refl
+  in-order false b c d x = refl
+
+-- What an accepted chain went through.
+pub record Through {A B : Type 0} (x : Outcome A) (f : A → Outcome B) (v : B) : Type 0 where
+  pub value : A
+  pub first : x ≡ accepted value
+  pub then : f value ≡ accepted v
+
+pub through : {A B : Type 0} (x : Outcome A) (f : A → Outcome B) (v : B) → andThen x f ≡ accepted v → Through x f v
+through (accepted a) f v e = record { value = a; first = refl; then = e }
+through (refused n) f v e = let z : _≡_ {A = ℕ} 0 1 = cc in absurd (omega arith)
+
+faults-every : (l : List Rule) → faults l ≡ given (not (every sound l)) 4
+unfolding faults every
+faults-every [] = refl
+faults-every (r ∷ l) = go (sound r) (faults-every l)
+  where
+    go : (t : Bool) → faults l ≡ given (not (every sound l)) 4 → orElse (given (not t) 4) (faults l) ≡ given (not (t && every sound l)) 4
+    go true h = h
+    go false h = refl
+
+ltb-not : (a b : ℕ) → ltb a b ≡ not (leb b a)
+ltb-not a b = go (leb b a) refl
+  where
+    go : (t : Bool) → leb b a ≡ t → ltb a b ≡ not t
+    go true h = le-ltb a b (leb-true b a h)
+    go false h = lt-ltb a b (leb-false b a h)
+
+-- The number that a list is refused with, as the tests of reading.
+pub list-outcome :
+    {A : Type 0} (most : ℕ) (l : List Rule) (x : A)
+    → test (leb 1 (length l)) 2 (test (leb (length l) most) 2 (test (every sound l) 4 (test (complete l) 5 (accepted x))))
+    ≡ unless (listRefusal most l) x
+unfolding listRefusal
+list-outcome most l x =
+    in-order (leb 1 (length l)) (leb (length l) most) (every sound l) (complete l) x
+    ∙ sym (rw (faults-every l, ltb-not (length l) 1, ltb-not most (length l)) refl)
+
+-- A list with no fault.
+pub record Faultless (most : ℕ) (l : List Rule) : Type 0 where
+  pub few : 1 ≤ length l
+  pub many : length l ≤ most
+  pub sounds : every sound l ≡ true
+  pub whole : complete l ≡ true
+
+pub faultless : (most : ℕ) (l : List Rule) → listRefusal most l ≡ 0 → Faultless most l
+faultless most l h =
+    let e = list-outcome most l most ∙ ap (λ (n : ℕ). unless n most) h in
+    let a = test-accepted (leb 1 (length l)) 2 _ most e in
+    let b = test-accepted (leb (length l) most) 2 _ most (a .1) in
+    let c = test-accepted (every sound l) 4 _ most (b .1) in
+    let d = test-accepted (complete l) 5 _ most (c .1) in
+    record {
+      few = leb-true 1 (length l) (a .0);
+      many = leb-true (length l) most (b .0);
+      sounds = c .0;
+      whole = d .0;
+    }

@@ -1,0 +1,128 @@
+-- The reader of a pair sheet: what the code answers at each of its tests is what the definition gives there.
+-- Assumes nothing.
+use mathlib.Core.Path.{_≡_, refl, ap, sym, _∙_}
+use mathlib.Core.List.{List}
+use Prim.Native.Nat.{ℕ, _+_, _*_, _-_, _<_, _≤_}
+use native.Mathlib.Omega.{arith}
+use lib.ListN.{length, take, drop, length-drop}
+use lib.Seq.{drop-drop}
+use borrow.Author.Tests.{le-leb, lt-leb, eq-eqb, ne-eqb}
+use Rattle.policy.specs.Fields.{limits, countSize}
+use Rattle.policy.specs.Rules.{Rule}
+use Rattle.policy.specs.Refusals.{accepted, refused, andThen, numberOf}
+use Rattle.policy.specs.Move.{Pair}
+use Rattle.policy.specs.Edit.{denies}
+use Rattle.policy.specs.declared.Refusal.{Refusal}
+use Rattle.policy.specs.declared.Refusal.the-variants.{LengthWrong, GroupsDiffer}
+use Rattle.wire.proofs.Records.{rulesIn-length}
+use Rattle.sheet.specs.Sections.{countIn, sectionSize}
+use Rattle.sheet.specs.Orders.{ended, order}
+use Rattle.sheet.specs.Pairs.{groupsIn, groupSection, pairIn}
+use Rattle.sheet.specs.Readers.{
+  rulesOf,
+  ListsPlace,
+  ListsRead,
+  GroupsRead,
+  pairOf,
+  pairHeard,
+  PairPlace,
+  PairPlaced,
+  PairRead,
+}
+use Rattle.sheet.specs.declared.Lists.{Lists}
+use Rattle.sheet.specs.declared.Lists.the-variants as L
+use Rattle.sheet.specs.declared.Groups.{Groups}
+use Rattle.sheet.specs.declared.Groups.the-variants as G
+use Rattle.sheet.specs.declared.PairParts.{PairParts}
+use Rattle.sheet.specs.declared.PairParts.the-variants as P
+use Rattle.sheet.proofs.Pairs.{pair-lists}
+use Rattle.sheet.proofs.OrderReader.{part-from, lists-fault, lists-parts, lists-place}
+use Rattle.sheet.proofs.GroupReader.{groups-fault, groups-boxes, groups-place}
+
+pair-faulty : {s : List ℕ} (f : Refusal) → pairIn limits s ≡ refused (numberOf f) → PairRead s (P.Fault f)
+unfolding pairHeard PairPlaced
+pair-faulty f e = record { says = sym e; place = tt }
+
+module _ {s : List ℕ} {r : Lists} (x : ListsRead s r) where
+  pub pair-fault : (f : Refusal) → r ≡ L.Fault f → PairRead s (P.Fault f)
+  pair-fault f e = pair-faulty f (pair-lists limits s ∙ rw (lists-fault x f e) refl)
+
+  module _ (n m middle third : ℕ) (e : r ≡ L.Parts n m middle third) where
+    place : ListsPlace s n m middle third
+    place = lists-place x n m middle third e
+
+    pub third-inside : third ≤ length s
+    third-inside = place .inside
+
+    pub gate-inside : sectionSize n ≤ length s
+    gate-inside = let p = place in omega arith
+
+    pub own-within : m ≤ limits .total
+    own-within = let p = place in omega arith
+
+    abbrev gate : List Rule
+    gate = rulesOf n s
+
+    abbrev own : List Rule
+    own = rulesOf m (drop middle s)
+
+    behind : pairIn limits s ≡ groupSection limits gate own (drop third s)
+    behind = pair-lists limits s ∙ rw (lists-parts x n m middle third e) refl
+
+    pub no-group-count : length s - third < countSize → PairRead s (P.Fault LengthWrong)
+    unfolding groupSection
+    no-group-count h = pair-faulty LengthWrong (behind ∙ rw (lt-leb countSize (length (drop third s)) (rw length-drop h)) refl)
+
+    module _ (a : countSize ≤ length s - third) (k : ℕ) (d : k ≡ denies gate) (v : ℕ) (c : v ≡ countIn (drop third s)) where
+      pub groups-differ : (v ≡ k → ⊥) → PairRead s (P.Fault GroupsDiffer)
+      unfolding groupSection
+      groups-differ h =
+          pair-faulty GroupsDiffer (behind ∙ rw (le-leb countSize (length (drop third s)) (rw length-drop a), ← c, ← d, ne-eqb v k h) refl)
+
+      module _ (q : v ≡ k) {t : Groups} (y : GroupsRead (limits .total) k m (take (length s - (third + countSize)) (drop (third + countSize) s)) t) where
+        groups : GroupsRead (limits .total) k m (drop (third + countSize) s) t
+        groups = rw (part-from s (third + countSize)) at y
+
+        counted :
+            pairIn limits s
+            ≡ andThen (groupsIn limits k m (drop (third + countSize) s)) (λ g. ended g (record { order = order gate own; groups = g .value }))
+        unfolding groupSection
+        counted =
+            behind
+            ∙ rw (
+              le-leb countSize (length (drop third s)) (rw length-drop a),
+              ← c,
+              ← d,
+              eq-eqb v k q,
+              drop-drop countSize third s,
+              rulesIn-length m (drop countSize (drop middle s)),
+            )
+
+        pub third-fault : (f : Refusal) → t ≡ G.Fault f → PairRead s (P.Fault f)
+        third-fault f i = pair-faulty f (counted ∙ rw (groups-fault groups f i) refl)
+
+        module _ (boxes next : ℕ) (i : t ≡ G.Boxes boxes next) where
+          left : length (drop next (drop (third + countSize) s)) ≡ length s - (third + countSize) - next
+          left = length-drop next (drop (third + countSize) s) ∙ ap (λ (j : ℕ). j - next) (length-drop (third + countSize) s)
+
+          pub pair-over : next < length s - (third + countSize) → PairRead s (P.Fault LengthWrong)
+          pair-over h =
+              pair-faulty LengthWrong
+              (counted ∙ rw (groups-boxes groups boxes next i, ne-eqb (length (drop next (drop (third + countSize) s))) 0 (λ z. omega (arith, left))) refl)
+
+          pub pair-read : length s - (third + countSize) ≤ next → PairRead s (P.Parts n m middle third boxes)
+          unfolding pairHeard PairPlaced
+          pair-read h =
+              let p = groups-place groups boxes next i in
+              let l = rw length-drop at (p .inside) in
+              record {
+                says =
+                    sym (counted
+                    ∙ rw (groups-boxes groups boxes next i, eq-eqb (length (drop next (drop (third + countSize) s))) 0 (omega (arith, left)), d) refl);
+                place = record {
+                  lists = place;
+                  boxesAre = rw (← d) (p .boxes);
+                  end = rw (← d) (omega (arith, p .end));
+                  totalLimit = omega (arith, p .limit);
+                };
+              }
