@@ -43,6 +43,18 @@ module _ {A : Type 0} where
   each-imp P Q [] f h = tt
   each-imp P Q (a ∷ l) f h = (f a (h .0), each-imp P Q l f (h .1))
 
+  pub each-take : (P : A → Type 0) (n : ℕ) (l : List A) → Each P l → Each P (take n l)
+  unfolding Each
+  each-take P zero l h = tt
+  each-take P (suc n) [] h = tt
+  each-take P (suc n) (a ∷ l) h = (h .0, each-take P n l (h .1))
+
+  pub each-drop : (P : A → Type 0) (n : ℕ) (l : List A) → Each P l → Each P (drop n l)
+  unfolding Each
+  each-drop P zero l h = h
+  each-drop P (suc n) [] h = tt
+  each-drop P (suc n) (a ∷ l) h = each-drop P n l (h .1)
+
   pub every-take : (f : A → Bool) (n : ℕ) (l : List A) → every f l ≡ true → every f (take n l) ≡ true
   unfolding every
   every-take f zero l h = refl

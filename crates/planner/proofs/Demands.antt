@@ -1,37 +1,40 @@
 -- Demands 2 and 3 hold at the level of bytes. Assumes nothing.
 use mathlib.Core.Path.{_≡_, refl, ap, sym, subst, _∙_}
 use mathlib.Core.List.{List, [], _∷_, _++_}
-use mathlib.Core.Bool.{Bool, true, false, not, _&&_}
+use mathlib.Core.Bool.{Bool, true, false, cond, _&&_}
 use Prim.Native.Nat.{ℕ, zero, suc, _+_, _-_, _<_, _≤_}
 use native.Mathlib.Omega.{arith}
-use lib.Dec.{leb}
-use lib.ListN.{length, take, drop, replicate}
+use lib.Dec.{leb, eqb}
+use lib.ListN.{length, take, drop, length-append, length-take, length-drop}
 use lib.Seq.{take-at, drop-at, length-take-le}
-use borrow.Author.Tests.{le-leb}
+use borrow.Author.Tests.{le-leb, eqb-true}
 use Rattle.lists.specs.Lists.{Each}
-use Rattle.policy.specs.Fields.{Limits}
+use Rattle.lists.proofs.Lists.{each-append, each-take, each-drop}
+use Rattle.policy.specs.Fields.{recordSize, Limits}
 use Rattle.policy.specs.Rules.{Rule}
 use Rattle.policy.specs.Refusals.{Outcome, accepted, refused, test, andThen, unless, given, orElse}
 use Rattle.policy.specs.Move.{slotsOf, room, Order, Pair, moved, gateList, cellList, listRefusal, moveRefusal}
 use Rattle.policy.specs.Check.{checkRefusal}
-use Rattle.policy.specs.Edit.{Kind, insert, delete, replace, put, front, back, changed, Edit, newOrder, placeFound, edited, changeRefusal, allDone}
+use Rattle.policy.specs.Edit.{Kind, out, put, changed, Edit, newOrder, placeFound, edited, changeRefusal, allDone}
 use Rattle.policy.proofs.Numbers.{orElse-zero, orElse-both, orElse-assoc}
-use Rattle.policy.proofs.Edits.{move-accepted, edit-as-fresh, change-refuses-as-fresh}
+use Rattle.policy.proofs.Edits.{Accepted, move-accepted, edit-as-fresh, change-refuses-as-fresh}
 use Rattle.policy.proofs.Checks.{moved-is-checked}
 use Rattle.policy.proofs.Demands.{move-holds}
 use Rattle.wire.specs.Numbers.{Byte}
 use Rattle.wire.specs.Buffers.{filled}
 use Rattle.wire.proofs.Buffers.{filled-over}
-use Rattle.wire.proofs.Records.{RuleFits}
+use Rattle.wire.proofs.Records.{RuleFits, ruleIn-fits}
 use Rattle.sheet.specs.Sections.{sectionBytes}
 use Rattle.sheet.specs.Orders.{orderIn, orderBytes, listIn}
 use Rattle.sheet.specs.Pairs.{pairIn, pairBytes, pairSize}
-use Rattle.sheet.proofs.Outcomes.{test-accepted, unless-accepted, through}
+use Rattle.sheet.proofs.Outcomes.{test-accepted, through, faultless}
 use Rattle.sheet.proofs.Orders.{ListFits, faultless-fits, order-back, order-faultless, order-written-back, list-back}
 use Rattle.sheet.proofs.Pairs.{pair-back}
 use Rattle.planner.specs.Calls.{planOf, moveOf, checkedOf, checkOf, written}
-use Rattle.planner.specs.Edits.{Asked, editOf, wholeRecord, changeOf, editedOf}
+use Rattle.planner.specs.Edits.{Asked, kindOf, editOf, wholeRecord, changeOf, editedOf}
 use Rattle.planner.specs.Demands.{DemandTwo, Held, held, after, edits, runCalls, ifTaken, taken, DemandThree, EditAsFresh}
+use Rattle.planner.specs.declared.Change.{Change}
+use Rattle.planner.specs.declared.Change.the-variants.{Insert, Delete, Replace}
 use Rattle.planner.proofs.Good.{moved-good, pair-short, gate-list-good, cell-list-good}
 
 unless-is : {A : Type 0} (n : ℕ) (a v : A) → unless n a ≡ accepted v → (n ≡ 0) × (a ≡ v)
@@ -44,6 +47,23 @@ unless-none n a e = rw e
 unless-plan : {A B : Type 0} (n m : ℕ) (a : A) (b : B) (f : A → Outcome B) → f a ≡ unless m b → andThen (unless n a) f ≡ unless (orElse n m) b
 unless-plan zero m a b f e = e
 unless-plan (suc n) m a b f e = refl
+
+-- a list with one rule of bytes put in fits its bytes
+put-fits : (c : Change) (s : List ℕ) → wholeRecord c s ≡ true → Each Byte s → Each RuleFits (put (kindOf c s)) × (length (put (kindOf c s)) ≤ 1)
+unfolding Each
+put-fits Insert s w b = ((ruleIn-fits s (omega (arith, eqb-true (length s) recordSize w)) b, tt), omega arith)
+put-fits Delete s w b = (tt, omega arith)
+put-fits Replace s w b = ((ruleIn-fits s (omega (arith, eqb-true (length s) recordSize w)) b, tt), omega arith)
+
+changed-fits : (i : ℕ) (c : Change) (s : List ℕ) (l : List Rule) → wholeRecord c s ≡ true → Each Byte s → Each RuleFits l → length l < 65535 → ListFits (changed i (kindOf c s) l)
+changed-fits i c s l w b f n =
+    let k : Kind = kindOf c s in
+    let p = put-fits c s w b in
+    record {
+      rules = each-append RuleFits (take i l) (put k ++ drop (out k) (drop i l)) (each-take RuleFits i l f)
+          (each-append RuleFits (put k) (drop (out k) (drop i l)) (p .0) (each-drop RuleFits (out k) (drop i l) (each-drop RuleFits i l f)));
+      count = rw (length-append, length-append, length-take, length-drop, length-drop) (omega arith);
+    }
 
 -- The limits' counts fit in two bytes, also with one rule more; an own rule at least fits the total.
 pub record Small (lim : Limits) : Type 0 where
@@ -172,13 +192,23 @@ module _ (lim : Limits) (small : Small lim) where
       record { lists = refl; accepts = move-again _ (r .0); sheet = r .1 }
 
   -- Demand 3, one edit with a place that exists and a whole record.
-  changed-fits : (i : ℕ) (k : Kind) (l : List Rule) → ListFits l → Each RuleFits (put k) → length l < 65535 → ListFits (changed i k l)
-  changed-fits i k l f p n = ?cf
-
   pub edit-as-fresh-move : (out : List ℕ) (o : Order) (a : Asked) → moveRefusal lim o ≡ 0 → a .list ≤ 1 → placeFound (editOf a) o ≡ true
       → wholeRecord (a .change) (a .bytes) ≡ true → Each Byte (a .bytes) → EditAsFresh lim out o a
   unfolding changeOf
   edit-as-fresh-move out o a h l p w b = record {
     same = edits-moved out o a h
-    ∙ rw (le-leb (a .list) 1 l, p, w, change-refuses-as-fresh lim (editOf a) o h, edit-as-fresh (editOf a) o) (sym (move-back (newOrder (editOf a) o) ?g ?w));
+        ∙ rw (le-leb (a .list) 1 l, p, w, change-refuses-as-fresh lim (editOf a) o h, edit-as-fresh (editOf a) o) (sym (move-back (newOrder (editOf a) o) (go (eqb (a .list) 0) .0) (go (eqb (a .list) 0) .1)));
   }
+    where
+      f : ListFits (o .gate) × ListFits (o .own)
+      f = move-fits o h
+
+      m : Accepted lim o
+      m = move-accepted lim o h
+
+      new : (l : List Rule) → Each RuleFits l → length l < 65535 → ListFits (changed (a .place) (kindOf (a .change) (a .bytes)) l)
+      new l r n = changed-fits (a .place) (a .change) (a .bytes) l w b r n
+
+      go : (t : Bool) → ListFits (cond t (changed (a .place) (kindOf (a .change) (a .bytes)) (cond t (o .gate) (o .own))) (o .gate)) × ListFits (cond t (o .own) (changed (a .place) (kindOf (a .change) (a .bytes)) (cond t (o .gate) (o .own))))
+      go true = (new (o .gate) (f .0 .rules) (omega (arith, faultless (lim .gate) (o .gate) (m .gate), small .gate)), f .1)
+      go false = (f .0, new (o .own) (f .1 .rules) (omega (arith, faultless (lim .own) (o .own) (m .own), small .own)))

@@ -10,20 +10,15 @@ use lib.ListN.{length, getD, drop, take, length-append}
 use lib.Seq.{drop-cons, take-suc, take-all, length-take-le}
 use borrow.Author.Tests.{eqb-true, ne-eqb}
 use Rattle.lists.specs.Lists.{Each}
+use Rattle.lists.proofs.Lists.{each-take, each-drop}
 use Rattle.wire.specs.Numbers.{numberBytes, numberFrom, numberIn, Byte, isWidth}
 
 -- Parts of bytes are bytes.
 pub bytes-take : (n : ℕ) (s : List ℕ) → Each Byte s → Each Byte (take n s)
-unfolding Each
-bytes-take zero s h = tt
-bytes-take (suc n) [] h = tt
-bytes-take (suc n) (b ∷ s) h = (h .0, bytes-take n s (h .1))
+bytes-take n s h = each-take Byte n s h
 
 pub bytes-drop : (n : ℕ) (s : List ℕ) → Each Byte s → Each Byte (drop n s)
-unfolding Each
-bytes-drop zero s h = h
-bytes-drop (suc n) [] h = tt
-bytes-drop (suc n) (b ∷ s) h = bytes-drop n s (h .1)
+bytes-drop n s h = each-drop Byte n s h
 
 bytes-at : (s : List ℕ) (i : ℕ) → Each Byte s → getD s i 0 < 256
 unfolding Each

@@ -16,7 +16,7 @@ use Rattle.policy.specs.Ranges.{Region, everyField, properRange, proper}
 use Rattle.policy.specs.Rules.{Rule, sound}
 use Rattle.wire.specs.Numbers.{numberBytes, numberIn, Byte}
 use Rattle.wire.specs.Records.{rangesBytes, rangesIn, boxBytes, boxIn, recordBytes, ruleIn, boxesBytes, boxesIn, recordsBytes, rulesIn, Fits}
-use Rattle.wire.proofs.Numbers.{numberBytes-length, number-back, bytes-back, bytes-take, bytes-drop}
+use Rattle.wire.proofs.Numbers.{numberBytes-length, number-back, number-bound, bytes-back, bytes-take, bytes-drop}
 use Rattle.wire.proofs.Items.{Items, items-written-length, items-read-length, items-back, items-written-back, items-from, item-at}
 
 -- Ranges in any widths.
@@ -115,6 +115,23 @@ sound-fits r h =
     (proper-fits (r .region) (and-true (proper highest (r .region)) (leb (r .action) 1) h .0), omega arith)
 
 -- One box.
+-- What is read from bytes fits them.
+rangesIn-fits : (ws s : List ℕ) → sizeOf ws ≤ length s → Each Byte s → Fits ws (rangesIn ws s)
+unfolding Fits rangesIn
+rangesIn-fits [] s h b = tt
+rangesIn-fits (w ∷ ws) s h b = (
+  number-bound w (take w s) (length-take-le w s (omega arith)) (bytes-take w s b),
+  number-bound w (take w (drop w s)) (length-take-le w (drop w s) (rw length-drop (omega arith))) (bytes-take w (drop w s) (bytes-drop w s b)),
+  rangesIn-fits ws (drop (w + w) s) (rw length-drop (omega arith)) (bytes-drop (w + w) s b),
+)
+
+pub ruleIn-fits : (s : List ℕ) → recordSize ≤ length s → Each Byte s → RuleFits (ruleIn s)
+unfolding ruleIn
+ruleIn-fits s h b = (
+  rangesIn-fits widths s (omega arith) b,
+  number-bound actionSize (take actionSize (drop boxSize s)) (length-take-le actionSize (drop boxSize s) (rw length-drop (omega arith))) (bytes-take actionSize (drop boxSize s) (bytes-drop boxSize s b)),
+)
+
 pub boxBytes-length : (b : Region) → Fits widths b → length (boxBytes b) ≡ boxSize
 boxBytes-length b h = rangesBytes-length widths b (fits-length widths b h)
 
