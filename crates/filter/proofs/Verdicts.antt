@@ -1,6 +1,6 @@
 -- Laws of a verdict: it is known from what it says, its place and action are small, and it is the number for C.
 -- Assumes nothing.
-use mathlib.Core.Path.{_≡_, refl, ap, sym, _∙_, subst}
+use mathlib.Core.Path.{_≡_, ap, sym, _∙_, subst}
 use mathlib.Core.List.{List, [], _∷_}
 use mathlib.Core.Bool.{Bool, true, false, cond}
 use Prim.Native.Nat.{ℕ, suc, _+_, _*_, _<_, _≤_}
@@ -11,7 +11,7 @@ use borrow.Author.Tests.{leb-true}
 use Rattle.policy.specs.Fields.{countSize}
 use Rattle.policy.specs.Ranges.{Packet, inside}
 use Rattle.policy.specs.Rules.{Rule, sound}
-use Rattle.policy.specs.Refusals.{Outcome, accepted, refused, test, numberOf}
+use Rattle.policy.specs.Refusals.{Outcome, accepted, test, numberOf}
 use Rattle.policy.specs.declared.Refusal.{Refusal}
 use Rattle.policy.proofs.Answers.{number-once, test-accepted}
 use Rattle.wire.specs.Numbers.{numberIn}

@@ -2,30 +2,22 @@
 -- its range, whatever the order. Assumes nothing.
 use borrow.Author.Needs.{needs}
 use native.Mathlib.Omega.{arith}
-use mathlib.Core.Path.{_≡_, refl, ap, sym, _∙_, subst}
+use mathlib.Core.Path.{_≡_, refl, sym, _∙_, subst}
 use mathlib.Core.Bool.{true, false}
-use Prim.Native.Nat.{ℕ, _+_, _*_, _-_, _≤_, _<_}
-use lib.ListN.{length, getD, drop}
+use Prim.Native.Nat.{ℕ, _+_, _-_, _≤_, _<_}
+use lib.ListN.{length, getD}
 use borrow.Author.Count.{below-more}
 use borrow.Author.Tests.{not-true, not-false}
-use Rattle.policy.specs.Fields.{fields, widths, countSize, recordSize}
-use Rattle.policy.specs.Ranges.{Region, within, inside}
+use Rattle.policy.specs.Fields.{fields, widths}
+use Rattle.policy.specs.Ranges.{Region, within}
 use Rattle.policy.specs.Rules.{sound}
 use Rattle.policy.specs.Values.{regionOf, rangeAt, ruleOf}
 use Rattle.policy.specs.declared.Rule.{Rule}
-use Rattle.wire.specs.Records.{rulesIn}
 use Rattle.wire.proofs.Records.{sound-fits, fits-length}
-use Rattle.filter.specs.Lookup.{lookFrom}
 use Rattle.filter.proofs.Insides.{InRange, below-outside, above-outside, between-within, outside-at, all-inside}
 use Rattle.filter.proofs.Lookups.{Left, left-all, bad-rule, rule-fits, rule-misses, none-fits}
 use Rattle.filter.proofs.scan.Statement.{statement}
 use Rattle.filter.proofs.scan.Tie as tie
-use Rattle.filter.proofs.scan.Reads as reads
-use Rattle.filter.proofs.scan.Lts as lts
-use Rattle.policy.proofs.Box.high_at.Reads as high-at-reads
-use Rattle.policy.proofs.Box.low_at.Reads as low-at-reads
-use Rattle.policy.proofs.Rule.is_sound.Reads as is-sound-reads
-use Rattle.wire.proofs.rule_at.Reads as rule-at-reads
 
 abbrev Inv-loop : tie.InvT-loop
 Inv-loop list count values i₀ r bounds k₀ i k =
