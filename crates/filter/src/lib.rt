@@ -1,1 +1,99 @@
-// todo
+// Lookup of a packet in list bytes.
+use policy::COUNT_BYTES;
+use policy::FIELDS;
+use policy::Packet;
+use policy::RECORD_BYTES;
+use policy::Refusal;
+use policy::TOTAL_MOST;
+use policy::number_of;
+use wire::count_at;
+use wire::rule_at;
+ghost use mathlib.Core.Path.{_≡_};
+ghost use mathlib.Core.List.{[], _∷_};
+ghost use lib.ListN.{length, drop};
+ghost use Rattle.policy.specs.Fields.{countSize, limits};
+ghost use Rattle.policy.specs.Values.{packetOf};
+ghost use Rattle.wire.specs.Records.{rulesIn};
+ghost use Rattle.filter.specs.Lookup.{lookFrom, listSize, lookup, lookupNumber};
+ghost use Rattle.filter.specs.Verdicts.{verdict};
+
+// For C a refusal is this and its number.
+const REFUSAL_BASE: u32 = 65536;
+
+// The rule that decides, or the refusal.
+pub enum Verdict {
+    Decided { place: usize, action: u32 },
+    Refused(Refusal),
+}
+
+// The rules of a list of so many, one after another: a field outside its range ends a rule.
+fn scan(p: Packet, list: &[u8], count: usize) -> Verdict
+    requires { ⌜ length (now list) ≡ listSize count ⌝ }
+    ensures { λ r. ⌜ verdict r ≡ lookFrom 0 (packetOf p) (rulesIn count (drop countSize (now (list .entry)))) ⌝ }
+{
+    let values = p.values;
+    'rules: for i in 0..count {
+        let r = rule_at(list, COUNT_BYTES + RECORD_BYTES * i);
+        if !r.is_sound() {
+            return Verdict::Refused(Refusal::RuleBad);
+        }
+        let bounds = r.bounds;
+        for k in 0..FIELDS {
+            if values[k] < bounds.low_at(k) {
+                continue 'rules;
+            }
+            if bounds.high_at(k) < values[k] {
+                continue 'rules;
+            }
+        }
+        return Verdict::Decided {
+            place: i,
+            action: r.action,
+        };
+    }
+    Verdict::Refused(Refusal::NotComplete)
+}
+
+// A list may have at most so many rules.
+fn lookup_within(most: usize, p: Packet, list: &[u8]) -> Verdict
+    ensures { λ r. ⌜ verdict r ≡ lookup most (packetOf p) (now (list .entry)) ⌝ }
+{
+    if list.len() < COUNT_BYTES {
+        return Verdict::Refused(Refusal::LengthWrong);
+    }
+    let count = count_at(list, 0);
+    if count < 1 {
+        return Verdict::Refused(Refusal::CountOutside);
+    }
+    if most < count {
+        return Verdict::Refused(Refusal::CountOutside);
+    }
+    if list.len() != COUNT_BYTES + RECORD_BYTES * count {
+        return Verdict::Refused(Refusal::LengthWrong);
+    }
+    scan(p, list, count)
+}
+
+pub fn lookup(p: Packet, list: &[u8]) -> Verdict
+    ensures { λ r. ⌜ verdict r ≡ lookup (limits .total) (packetOf p) (now (list .entry)) ⌝ }
+{
+    lookup_within(TOTAL_MOST, p, list)
+}
+
+#[no_mangle]
+pub extern "C" fn foldplover_lookup(
+    src: u32,
+    dst: u32,
+    sport: u32,
+    dport: u32,
+    proto: u32,
+    list: &[u8],
+) -> u32
+    ensures { λ r. ⌜ r ≡ lookupNumber (lookup (limits .total) (src ∷ dst ∷ sport ∷ dport ∷ proto ∷ []) (now (list .entry))) ⌝ }
+{
+    let values = [src, dst, sport, dport, proto];
+    match lookup(Packet { values }, list) {
+        Verdict::Decided { place, action } => 2 * (place as u32) + action,
+        Verdict::Refused(f) => REFUSAL_BASE + number_of(f),
+    }
+}

@@ -1,10 +1,13 @@
 -- Laws on lists that the logic's own library lacks. Assumes nothing.
-use mathlib.Core.Path.{_≡_, refl, ap}
+use mathlib.Core.Path.{_≡_, refl, ap, _∙_}
 use mathlib.Core.List.{List, [], _∷_, _++_, map}
 use mathlib.Core.Bool.{Bool, true}
-use Prim.Native.Nat.{ℕ}
-use lib.ListN.{take, drop, take-append-drop}
-use Rattle.lists.specs.Lists.{Each}
+use Prim.Native.Nat.{ℕ, zero, suc, _+_}
+use native.Mathlib.Omega.{arith}
+use lib.ListN.{length, set, take, drop, take-append-drop}
+use lib.Seq.{sets}
+use Rattle.lists.specs.Lists.{Each, every}
+use Rattle.lists.proofs.Tests.{and-true, and-both}
 
 pub map-append {ℓ} : {A B : Type ℓ} (f : A → B) (l k : List A) → map f (l ++ k) ≡ map f l ++ map f k
 map-append f [] k = refl
@@ -17,6 +20,12 @@ append-none (a ∷ l) = ap (λ (r : List _). a ∷ r) (append-none l)
 -- A list is its part before a place, a stretch of n, and the rest.
 pub three-parts {ℓ} : {A : Type ℓ} (i n : ℕ) (l : List A) → take i l ++ (take n (drop i l) ++ drop n (drop i l)) ≡ l
 three-parts i n l = rw (take-append-drop n (drop i l), take-append-drop i l)
+
+-- A run of stores in two parts.
+pub sets-append {ℓ} : {A : Type ℓ} (l : List A) (i : ℕ) (u v : List A) → sets l i (u ++ v) ≡ sets (sets l i u) (i + length u) v
+sets-append l i [] v = ap (λ (n : ℕ). sets l n v) (omega arith)
+sets-append l i (a ∷ u) v =
+    sets-append (set l i a) (suc i) u v ∙ ap (λ (n : ℕ). sets (sets (set l i a) (suc i) u) n v) (omega arith)
 
 module _ {A : Type 0} where
   pub each-append : (P : A → Type 0) (l k : List A) → Each P l → Each P k → Each P (l ++ k)
@@ -33,3 +42,23 @@ module _ {A : Type 0} where
   unfolding Each
   each-imp P Q [] f h = tt
   each-imp P Q (a ∷ l) f h = (f a (h .0), each-imp P Q l f (h .1))
+
+  pub each-take : (P : A → Type 0) (n : ℕ) (l : List A) → Each P l → Each P (take n l)
+  unfolding Each
+  each-take P zero l h = tt
+  each-take P (suc n) [] h = tt
+  each-take P (suc n) (a ∷ l) h = (h .0, each-take P n l (h .1))
+
+  pub each-drop : (P : A → Type 0) (n : ℕ) (l : List A) → Each P l → Each P (drop n l)
+  unfolding Each
+  each-drop P zero l h = h
+  each-drop P (suc n) [] h = tt
+  each-drop P (suc n) (a ∷ l) h = each-drop P n l (h .1)
+
+  pub every-take : (f : A → Bool) (n : ℕ) (l : List A) → every f l ≡ true → every f (take n l) ≡ true
+  unfolding every
+  every-take f zero l h = refl
+  every-take f (suc n) [] h = refl
+  every-take f (suc n) (a ∷ l) h =
+      let g = and-true (f a) (every f l) h in
+      and-both (f a) (every f (take n l)) (g .0) (every-take f n l (g .1))

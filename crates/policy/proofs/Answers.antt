@@ -1,10 +1,10 @@
--- An answer is known from its number or value. Assumes nothing.
+-- An answer is known from its number or value, and a call that is accepted has passed its tests. Assumes nothing.
 use mathlib.Core.Path.{_≡_, refl, ap, sym, _∙_}
-use mathlib.Core.Bool.{cond}
+use mathlib.Core.Bool.{Bool, true, false, cond}
 use Prim.Native.Nat.{ℕ}
 use native.Mathlib.Omega.{arith}
 use lib.Dec.{eqb}
-use Rattle.policy.specs.Refusals.{numberOf, said}
+use Rattle.policy.specs.Refusals.{numberOf, Outcome, accepted, refused, test, said}
 use Rattle.policy.specs.declared.Refusal.{Refusal}
 use Rattle.policy.specs.declared.Refusal.the-variants.{
   BufferShort,
@@ -46,3 +46,7 @@ said-once (Length n) (Length m) e = ap Length (cc)
 said-once (Length n) (Refused f) e = let z : _≡_ {A = ℕ} 0 1 = cc in absurd (omega arith)
 said-once (Refused f) (Length m) e = let z : _≡_ {A = ℕ} 0 1 = cc in absurd (omega arith)
 said-once (Refused f) (Refused g) e = ap Refused (number-once f g (cc))
+
+pub test-accepted : {A : Type 0} (t : Bool) (n : ℕ) (x : Outcome A) {a : A} → test t n x ≡ accepted a → (t ≡ true) × (x ≡ accepted a)
+test-accepted true n x e = (refl, e)
+test-accepted false n x e = let z : _≡_ {A = ℕ} 0 1 = cc in absurd (omega arith)

@@ -8,7 +8,8 @@ use Rattle.lists.specs.Lists.{Each}
 use Rattle.policy.specs.Fields.{Limits}
 use Rattle.policy.specs.Ranges.{Region, Whole}
 use Rattle.policy.specs.Move.{Order, Pair, moveRefusal}
-use Rattle.policy.specs.Edit.{Kind, Edit, hasPlace, denies}
+use Rattle.policy.specs.Edit.{Kind, Edit, hasPlace}
+use Rattle.policy.specs.Rules.{denies}
 use Rattle.policy.specs.Demands.{CutHolds, GroupHolds, MoveHolds, EditHolds, RunHolds, OthersKept, DenyOnly}
 use Rattle.policy.proofs.Cuts.{cut-inside, cut-few}
 use Rattle.policy.proofs.Groups.{cut-apart, cut-covers, group-inside, group-apart, group-covers}

@@ -11,7 +11,7 @@ use Rattle.lists.proofs.Tests.{or-false}
 use Rattle.lists.proofs.Lists.{map-append, append-none, three-parts}
 use Rattle.policy.specs.Fields.{Limits}
 use Rattle.policy.specs.Ranges.{Region}
-use Rattle.policy.specs.Rules.{Rule, isAllow, sound, complete}
+use Rattle.policy.specs.Rules.{Rule, isAllow, sound, complete, denies, allowsIn, anyAllow}
 use Rattle.policy.specs.Refusals.{given, orElse, faults}
 use Rattle.policy.specs.Move.{
   Slot,
@@ -23,6 +23,7 @@ use Rattle.policy.specs.Move.{
   boxesOf,
   overSlot,
   anyOver,
+  together,
   work,
   room,
   groupsOf,
@@ -33,31 +34,7 @@ use Rattle.policy.specs.Move.{
   listRefusal,
   moveRefusal,
 }
-use Rattle.policy.specs.Edit.{
-  Kind,
-  out,
-  put,
-  front,
-  gone,
-  back,
-  changed,
-  denies,
-  allowsIn,
-  anyAllow,
-  around,
-  gateSlots,
-  Edit,
-  newOrder,
-  newSlots,
-  edited,
-  changeRefusal,
-  placeFound,
-  editRefusal,
-  ifAccepted,
-  run,
-  acceptedEdits,
-  allDone,
-}
+use Rattle.policy.specs.Edit.{Kind, out, put, front, gone, back, changed, around, gateSlots, Edit, newOrder, newSlots, edited, changeRefusal, placeFound, editRefusal, ifAccepted, run, acceptedEdits, allDone}
 use Rattle.policy.specs.Demands.{EditHolds, RunHolds}
 use Rattle.policy.proofs.Numbers.{orElse-zero, orElse-skip, orElse-none, orElse-assoc, given-zero}
 
@@ -119,10 +96,25 @@ over-append m (s ∷ x) y = rw (over-append m x y) (go (overSlot m s))
     go true = refl
     go false = refl
 
-faults-append : (x y : List Rule) → faults (x ++ y) ≡ orElse (faults x) (faults y)
+pub faults-append : (x y : List Rule) → faults (x ++ y) ≡ orElse (faults x) (faults y)
 unfolding faults
 faults-append [] y = refl
 faults-append (r ∷ x) y = rw (faults-append x y) (sym (orElse-assoc (given (not (sound r)) 4) (faults x) (faults y)))
+
+pub together-append : (x y : List (List Region)) → together (x ++ y) ≡ together x ++ together y
+unfolding together
+together-append [] y = refl
+together-append (g ∷ x) y = rw (together-append x y) (sym (append-assoc g (together x) (together y)))
+
+pub allowsIn-append : (x y : List Rule) → allowsIn (x ++ y) ≡ allowsIn x ++ allowsIn y
+unfolding allowsIn
+allowsIn-append [] y = refl
+allowsIn-append (r ∷ x) y = go (isAllow r) (allowsIn-append x y)
+  where
+    go : (t : Bool) → allowsIn (x ++ y) ≡ allowsIn x ++ allowsIn y
+        → cond t (r .region ∷ allowsIn (x ++ y)) (allowsIn (x ++ y)) ≡ cond t (r .region ∷ allowsIn x) (allowsIn x) ++ allowsIn y
+    go true h = ap (λ (l : List Region). r .region ∷ l) h
+    go false h = h
 
 -- the slots and the groups of a list in three parts
 slots-three : (f : Region → List Region) (x m y : List Rule) → slots f [] (x ++ (m ++ y)) ≡ slots f [] x ++ (slots f (allowsIn x) m ++ slots f (allowsIn x ++ allowsIn m) y)

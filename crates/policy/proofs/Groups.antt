@@ -5,11 +5,15 @@ use mathlib.Core.Bool.{Bool, true, false, cond, not, _&&_, _||_, true≢false, f
 use mathlib.Core.Logic.{_⊎_, inl, inr, ⊎-elim, _↔_}
 use Prim.Native.Nat.{ℕ, suc, zero, _+_, _-_, _*_, _≤_, _<_}
 use native.Mathlib.Omega.{arith}
+use lib.Dec.{ltb}
 use lib.ListN.{length, getD}
+use borrow.Author.Tests.{ltb-false}
+use Rattle.lists.proofs.Tests.{or-false}
 use Rattle.policy.specs.Ranges.{Range, Region, Packet, within, inside, Whole, Within}
 use Rattle.policy.specs.Cut.{cut, cutEach, group, anyHas}
 use Rattle.lists.specs.Lists.{Each}
 use Rattle.lists.proofs.Lists.{each-append, each-imp}
+use Rattle.policy.specs.Move.{over}
 use Rattle.policy.specs.Demands.{Piece, Apart, Covers}
 use Rattle.policy.proofs.Cuts.{one, hits, hits-append, cut-hits, cut-inside, within-self}
 
@@ -134,3 +138,11 @@ group-each-inside d ds (a ∷ l) w h = group-each-inside d (cutEach ds a) l (w .
 pub group-inside : (d : Region) (l : List Region) → Whole d → Each Whole l → Each (Piece d) (group (d ∷ []) l)
 unfolding Each
 group-inside d l u w = group-each-inside d (d ∷ []) l w ((u, within-self d), tt)
+
+-- where number 6 is not given, the group is within its limit
+pub over-few : (most : ℕ) (ds allows : List Region) → over most ds allows ≡ false → length ds ≤ most → length (group ds allows) ≤ most
+unfolding over group
+over-few most ds [] h k = k
+over-few most ds (a ∷ allows) h k =
+    let f = or-false (ltb most (length (cutEach ds a))) (over most (cutEach ds a) allows) h in
+    over-few most (cutEach ds a) allows (f .1) (ltb-false most (length (cutEach ds a)) (f .0))

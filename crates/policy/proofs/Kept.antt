@@ -10,9 +10,9 @@ use lib.Seq.{take-append-add, take-append-le, take-take, getD-take, getD-drop, g
 use borrow.Author.Tests.{leb-true}
 use Rattle.lists.proofs.Lists.{map-append, three-parts}
 use Rattle.policy.specs.Ranges.{Region}
-use Rattle.policy.specs.Rules.{Rule, rule, isAllow}
+use Rattle.policy.specs.Rules.{Rule, rule, isAllow, denies, allowsIn, anyAllow}
 use Rattle.policy.specs.Move.{kept, startOf, slots, boxesOf, Pair}
-use Rattle.policy.specs.Edit.{Kind, out, put, front, gone, back, changed, hasPlace, denies, allowsIn, anyAllow, around, edited}
+use Rattle.policy.specs.Edit.{Kind, out, put, front, gone, back, changed, hasPlace, around, edited}
 use Rattle.policy.specs.Demands.{groupAt, inGateAt, OthersKept, DenyOnly}
 use Rattle.policy.proofs.Edits.{slots-length, kept-boxes}
 

@@ -3,6 +3,7 @@ pub mod Values
 pub mod Cuts
 pub mod Groups
 pub mod Moves
+pub mod Proper
 pub mod Edits
 pub mod Kept
 pub mod Checks

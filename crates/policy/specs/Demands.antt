@@ -9,26 +9,11 @@ use lib.ListN.{length, getD, take}
 use Rattle.lists.specs.Lists.{Each}
 use Rattle.policy.specs.Fields.{Limits}
 use Rattle.policy.specs.Ranges.{Region, Packet, inside, Whole, Within}
-use Rattle.policy.specs.Rules.{Rule, rule, isAllow, drops, forwards}
+use Rattle.policy.specs.Rules.{Rule, rule, isAllow, drops, forwards, denies, anyAllow}
 use Rattle.policy.specs.Cut.{cut, group, anyHas}
 use Rattle.policy.specs.Refusals.{given, orElse}
 use Rattle.policy.specs.Move.{together, Order, Pair, moved, gateList, cellList, moveRefusal}
-use Rattle.policy.specs.Edit.{
-  Kind,
-  out,
-  put,
-  gone,
-  denies,
-  anyAllow,
-  Edit,
-  newOrder,
-  edited,
-  placeFound,
-  editRefusal,
-  run,
-  acceptedEdits,
-  allDone,
-}
+use Rattle.policy.specs.Edit.{Kind, out, put, gone, Edit, newOrder, edited, placeFound, editRefusal, run, acceptedEdits, allDone}
 
 -- A piece of d is never empty and lies in d.
 abbrev pub Piece : Region → Region → Type 0

@@ -1,13 +1,13 @@
 -- Edits of a pair, on any pair, also one whose groups are not what A gives (01, Calls and Numbers given back).
 -- Assumes nothing.
 use mathlib.Core.List.{List, [], _∷_, _++_, map}
-use mathlib.Core.Bool.{Bool, true, false, cond, not, _||_}
+use mathlib.Core.Bool.{Bool, cond, not, _||_}
 use Prim.Native.Nat.{ℕ, zero, suc, _+_}
 use lib.Dec.{leb}
 use lib.ListN.{length, take, drop}
 use Rattle.policy.specs.Fields.{Limits}
 use Rattle.policy.specs.Ranges.{Region}
-use Rattle.policy.specs.Rules.{Rule, isAllow, complete}
+use Rattle.policy.specs.Rules.{Rule, complete, denies, allowsIn, anyAllow}
 use Rattle.policy.specs.Refusals.{given, orElse, faults}
 use Rattle.policy.specs.Move.{startOf, Slot, kept, slots, boxesOf, room, Order, Pair, badCount}
 
@@ -43,19 +43,6 @@ changed i k l = front i l ++ (put k ++ back i k l)
 -- Number 9: an insert has the places 0 to the count, the others 0 to the count less one.
 abbrev pub hasPlace : ℕ → Kind → List Rule → Bool
 hasPlace i k l = leb (i + out k) (length l)
-
--- The deny rules of a list, counted, and the boxes of its allow rules.
-unfoldable pub denies : List Rule → ℕ
-denies [] = 0
-denies (r ∷ l) = cond (isAllow r) (denies l) (suc (denies l))
-
-unfoldable pub allowsIn : List Rule → List Region
-allowsIn [] = []
-allowsIn (r ∷ l) = cond (isAllow r) (r .region ∷ allowsIn l) (allowsIn l)
-
-unfoldable pub anyAllow : List Rule → Bool
-anyAllow [] = false
-anyAllow (r ∷ l) = isAllow r || anyAllow l
 
 -- Kept are the groups of the deny rules before the place and, unless an allow is taken out or put in, of those after it.
 -- All others are worked out anew.

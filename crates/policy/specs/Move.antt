@@ -8,7 +8,7 @@ use lib.ListN.{length}
 use Rattle.policy.specs.Fields.{Limits}
 use Rattle.policy.specs.Ranges.{Region}
 use Rattle.policy.specs.Cut.{cutEach, group}
-use Rattle.policy.specs.Rules.{Rule, rule, isAllow, full, complete}
+use Rattle.policy.specs.Rules.{Rule, rule, isAllow, full, complete, allowsIn}
 use Rattle.policy.specs.Refusals.{given, orElse, faults}
 
 -- What an order sheet holds, and what a pair sheet holds.

@@ -1,7 +1,7 @@
 -- Rules and lists: first match, completeness, and what a list and a pair do with a packet (01, The five fields).
 -- Assumes nothing.
 use mathlib.Core.List.{List, [], _∷_}
-use mathlib.Core.Bool.{Bool, true, false, cond, not, _&&_}
+use mathlib.Core.Bool.{Bool, true, false, cond, not, _&&_, _||_}
 use Prim.Native.Nat.{ℕ, suc}
 use lib.Dec.{leb, eqb}
 use Rattle.policy.specs.Fields.{highest}
@@ -66,3 +66,16 @@ inLimits p = inside p full
 -- A pair forwards a packet if both of its lists allow it.
 abbrev pub forwards : Packet → List Rule → List Rule → Bool
 forwards p gate cell = allows p gate && allows p cell
+
+-- The deny rules of a list, counted, and the boxes of its allow rules.
+unfoldable pub denies : List Rule → ℕ
+denies [] = 0
+denies (r ∷ l) = cond (isAllow r) (denies l) (suc (denies l))
+
+unfoldable pub allowsIn : List Rule → List Region
+allowsIn [] = []
+allowsIn (r ∷ l) = cond (isAllow r) (r .region ∷ allowsIn l) (allowsIn l)
+
+unfoldable pub anyAllow : List Rule → Bool
+anyAllow [] = false
+anyAllow (r ∷ l) = isAllow r || anyAllow l

@@ -10,7 +10,6 @@ use Rattle.lists.specs.Lists.{Each}
 use Rattle.policy.specs.Fields.{countSize, limits}
 use Rattle.policy.specs.Refusals.{accepted, refused, numberOf}
 use Rattle.policy.specs.Move.{Order, Pair, listRefusal}
-use Rattle.policy.specs.Edit.{denies}
 use Rattle.policy.specs.declared.Refusal.{Refusal}
 use Rattle.wire.specs.Numbers.{numberBytes, Byte}
 use Rattle.wire.proofs.Numbers.{numberBytes-length}

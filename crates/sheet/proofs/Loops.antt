@@ -9,8 +9,7 @@ use lib.Seq.{drop-drop}
 use borrow.Author.Tests.{not-true, not-false, eq-eqb, ne-eqb}
 use Rattle.lists.specs.Lists.{every}
 use Rattle.policy.specs.Fields.{boxSize, recordSize}
-use Rattle.policy.specs.Rules.{Rule, isAllow}
-use Rattle.policy.specs.Edit.{denies}
+use Rattle.policy.specs.Rules.{Rule, isAllow, denies}
 use Rattle.wire.specs.Records.{boxIn, boxesIn, ruleIn, rulesIn}
 
 -- What is left at turn i begins with the item at the place reached.

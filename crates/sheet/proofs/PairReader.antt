@@ -8,9 +8,8 @@ use lib.ListN.{length, take, drop, length-drop}
 use lib.Seq.{drop-drop}
 use borrow.Author.Tests.{le-leb, lt-leb, eq-eqb, ne-eqb}
 use Rattle.policy.specs.Fields.{limits, countSize}
-use Rattle.policy.specs.Rules.{Rule}
+use Rattle.policy.specs.Rules.{Rule, denies}
 use Rattle.policy.specs.Refusals.{refused, andThen, numberOf}
-use Rattle.policy.specs.Edit.{denies}
 use Rattle.policy.specs.declared.Refusal.{Refusal}
 use Rattle.policy.specs.declared.Refusal.the-variants.{LengthWrong, GroupsDiffer}
 use Rattle.wire.proofs.Records.{rulesIn-length}

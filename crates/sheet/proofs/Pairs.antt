@@ -11,10 +11,9 @@ use borrow.Author.Tests.{le-leb, leb-true, eq-eqb, eqb-true}
 use Rattle.lists.specs.Lists.{Each, every}
 use Rattle.policy.specs.Fields.{Limits, highest, widths, boxSize, countSize}
 use Rattle.policy.specs.Ranges.{Region, proper}
-use Rattle.policy.specs.Rules.{Rule, isAllow}
+use Rattle.policy.specs.Rules.{Rule, isAllow, denies}
 use Rattle.policy.specs.Refusals.{accepted, andThen}
 use Rattle.policy.specs.Move.{Order, Pair, together, listRefusal}
-use Rattle.policy.specs.Edit.{denies}
 use Rattle.wire.specs.Numbers.{numberBytes, Byte}
 use Rattle.wire.specs.Records.{Fits, boxesBytes}
 use Rattle.wire.proofs.Numbers.{numberBytes-length, bytes-drop}

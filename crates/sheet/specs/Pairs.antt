@@ -7,10 +7,9 @@ use lib.ListN.{length, drop}
 use Rattle.lists.specs.Lists.{every}
 use Rattle.policy.specs.Fields.{highest, boxSize, countSize, Limits}
 use Rattle.policy.specs.Ranges.{Region, proper}
-use Rattle.policy.specs.Rules.{Rule}
+use Rattle.policy.specs.Rules.{Rule, denies}
 use Rattle.policy.specs.Refusals.{Outcome, accepted, test, andThen}
 use Rattle.policy.specs.Move.{Pair}
-use Rattle.policy.specs.Edit.{denies}
 use Rattle.wire.specs.Numbers.{numberBytes}
 use Rattle.wire.specs.Records.{boxesBytes, boxesIn}
 use Rattle.sheet.specs.Sections.{Reading, reading, countIn, section}

@@ -5,10 +5,9 @@ use Prim.Native.Nat.{ℕ, zero, suc, _+_, _*_, _≤_}
 use lib.ListN.{length, drop}
 use Rattle.policy.specs.Fields.{boxSize, countSize, Limits, limits}
 use Rattle.policy.specs.Ranges.{Region}
-use Rattle.policy.specs.Rules.{Rule}
+use Rattle.policy.specs.Rules.{Rule, denies}
 use Rattle.policy.specs.Refusals.{Outcome, accepted, refused, andThen, numberOf}
 use Rattle.policy.specs.Move.{Order, Pair, together}
-use Rattle.policy.specs.Edit.{denies}
 use Rattle.wire.specs.Records.{rulesIn}
 use Rattle.sheet.specs.Sections.{Reading, reading, countIn, sectionSize, section}
 use Rattle.sheet.specs.Orders.{order, orderIn, listIn}

@@ -5,7 +5,7 @@ use Prim.Native.Nat.{ℕ, suc, _+_, _-_, _<_, _≤_}
 use native.Mathlib.Omega.{arith}
 use native.Mathlib.Numerals.{add-one}
 use lib.ListN.{length, take, drop, getD, set, replicate, length-append, length-replicate, replicate-append-replicate, take-append-drop}
-use lib.Seq.{sets, sets-eq, take-all, take-at, drop-append-add, drop-cons, drop-drop, set-at, length-take-le, append-snoc}
+use lib.Seq.{sets, sets-eq, take-all, take-at, drop-at, drop-append-add, drop-cons, drop-drop, set-at, length-take-le, append-snoc}
 use Rattle.wire.specs.Buffers.{zeroed, filled}
 
 pub zeroed-none : (from : ℕ) (s : List ℕ) → s ≡ zeroed from from s
@@ -38,6 +38,15 @@ filled-is content out copied last m n e h g u v =
     let y : drop n copied ≡ drop n out = ap (drop n) w ∙ (ap (λ (j : ℕ). drop j (content ++ drop m out)) (sym k)
     ∙ (drop-append-add content (drop m out) (n - m) ∙ (drop-drop (n - m) m out ∙ ap (λ (j : ℕ). drop j out) k′))) in
     v ∙ (rw (x, y) (ap (λ (j : ℕ). content ++ (replicate (n - j) 0 ++ drop n out)) e))
+
+-- Filled once more, nothing of the first content is left.
+pub filled-over : (end : ℕ) (out c d : List ℕ) → length c ≤ end → filled end (filled end out c) d ≡ filled end out d
+unfolding filled
+filled-over end out c d h =
+    let e : length (c ++ replicate (end - length c) 0) ≡ end = rw (length-append, length-replicate) (omega arith) in
+    let f : drop end (c ++ (replicate (end - length c) 0 ++ drop end out)) ≡ drop end out =
+    rw (← append-assoc c (replicate (end - length c) 0) (drop end out)) (drop-at (c ++ replicate (end - length c) 0) (drop end out) end e) in
+    rw f
 
 -- Content of exactly the size, stored at the front.
 pub filled-front : (size : ℕ) (out content : List ℕ) → length content ≡ size → size ≤ length out → sets out 0 content ≡ filled size out content

@@ -10,26 +10,27 @@ use lib.ListN.{length, getD, drop, take, length-append}
 use lib.Seq.{drop-cons, take-suc, take-all, length-take-le}
 use borrow.Author.Tests.{eqb-true, ne-eqb}
 use Rattle.lists.specs.Lists.{Each}
+use Rattle.lists.proofs.Lists.{each-take, each-drop}
 use Rattle.wire.specs.Numbers.{numberBytes, numberFrom, numberIn, Byte, isWidth}
 
 -- Parts of bytes are bytes.
 pub bytes-take : (n : ℕ) (s : List ℕ) → Each Byte s → Each Byte (take n s)
-unfolding Each
-bytes-take zero s h = tt
-bytes-take (suc n) [] h = tt
-bytes-take (suc n) (b ∷ s) h = (h .0, bytes-take n s (h .1))
+bytes-take n s h = each-take Byte n s h
 
 pub bytes-drop : (n : ℕ) (s : List ℕ) → Each Byte s → Each Byte (drop n s)
-unfolding Each
-bytes-drop zero s h = h
-bytes-drop (suc n) [] h = tt
-bytes-drop (suc n) (b ∷ s) h = bytes-drop n s (h .1)
+bytes-drop n s h = each-drop Byte n s h
 
 bytes-at : (s : List ℕ) (i : ℕ) → Each Byte s → getD s i 0 < 256
 unfolding Each
 bytes-at [] i h = omega arith
 bytes-at (b ∷ s) zero h = h .0
 bytes-at (b ∷ s) (suc i) h = bytes-at s i (h .1)
+
+-- What stands in a slice of bytes are bytes.
+pub bytes-all : (s : List ℕ) → ((i : ℕ) → getD s i 0 < 256) → Each Byte s
+unfolding Each
+bytes-all [] f = tt
+bytes-all (b ∷ s) f = (f 0, bytes-all s (λ i. f (suc i)))
 
 pub numberBytes-length : (w x : ℕ) → length (numberBytes w x) ≡ w
 unfolding numberBytes

@@ -2,7 +2,7 @@
 -- one after another. Assumes nothing.
 use mathlib.Core.Path.{_≡_, refl, ap, sym}
 use mathlib.Core.List.{List, [], _∷_, _++_, map, append-assoc}
-use mathlib.Core.Bool.{Bool, true, false}
+use mathlib.Core.Bool.{Bool, true, false≢true}
 use Prim.Native.Nat.{ℕ, suc, _+_, _*_, _-_, _^_, _<_, _≤_}
 use native.Mathlib.Omega.{arith}
 use lib.Dec.{eqb, leb}
@@ -14,9 +14,10 @@ use Rattle.lists.proofs.Tests.{and-true}
 use Rattle.policy.specs.Fields.{Field, fieldTable, widths, highest, sizeOf, boxSize, actionSize, recordSize}
 use Rattle.policy.specs.Ranges.{Region, everyField, properRange, proper}
 use Rattle.policy.specs.Rules.{Rule, sound}
+use Rattle.policy.proofs.Moves.{rule-proper}
 use Rattle.wire.specs.Numbers.{numberBytes, numberIn, Byte}
 use Rattle.wire.specs.Records.{rangesBytes, rangesIn, boxBytes, boxIn, recordBytes, ruleIn, boxesBytes, boxesIn, recordsBytes, rulesIn, Fits}
-use Rattle.wire.proofs.Numbers.{numberBytes-length, number-back, bytes-back, bytes-take, bytes-drop}
+use Rattle.wire.proofs.Numbers.{numberBytes-length, number-back, number-bound, bytes-back, bytes-take, bytes-drop}
 use Rattle.wire.proofs.Items.{Items, items-written-length, items-read-length, items-back, items-written-back, items-from, item-at}
 
 -- Ranges in any widths.
@@ -79,14 +80,11 @@ highestOf f = f .highest
 abbrev widthOf : Field → ℕ
 widthOf f = f .width
 
-false-never : false ≡ true → ⊥
-false-never h = let z : _≡_ {A = ℕ} 0 1 = cc in omega arith
-
 rows-fit : (t : List Field) (b : Region) → every exact t ≡ true → proper (map highestOf t) b ≡ true → Fits (map widthOf t) b
 unfolding every everyField Fits
 rows-fit [] [] e h = tt
-rows-fit [] (r ∷ b) e h = false-never h
-rows-fit (f ∷ t) [] e h = false-never h
+rows-fit [] (r ∷ b) e h = absurd (false≢true h)
+rows-fit (f ∷ t) [] e h = absurd (false≢true h)
 rows-fit (f ∷ t) (r ∷ b) e h =
     let d = and-true (exact f) (every exact t) e in
     let g = and-true (properRange (f .highest) r) (proper (map highestOf t) b) h in
@@ -104,14 +102,32 @@ proper-fits b h = rows-fit fieldTable b refl h
 abbrev pub RuleFits : Rule → Type 0
 RuleFits r = Fits widths (r .region) × (r .action < 256 ^ actionSize)
 
-pub sound-fits : (r : Rule) → sound r ≡ true → RuleFits r
+pub sound-action : (r : Rule) → sound r ≡ true → r .action ≤ 1
 unfolding sound
-sound-fits r h =
-    let g = and-true (proper highest (r .region)) (leb (r .action) 1) h in
-    let l = leb-true (r .action) 1 (g .1) in
-    (proper-fits (r .region) (g .0), omega arith)
+sound-action r h = leb-true (r .action) 1 (and-true (proper highest (r .region)) (leb (r .action) 1) h .1)
 
--- One box.
+pub sound-fits : (r : Rule) → sound r ≡ true → RuleFits r
+sound-fits r h =
+    let l = sound-action r h in
+    (proper-fits (r .region) (rule-proper r h), omega arith)
+
+-- What is read from bytes fits them.
+rangesIn-fits : (ws s : List ℕ) → sizeOf ws ≤ length s → Each Byte s → Fits ws (rangesIn ws s)
+unfolding Fits rangesIn
+rangesIn-fits [] s h b = tt
+rangesIn-fits (w ∷ ws) s h b = (
+  number-bound w (take w s) (length-take-le w s (omega arith)) (bytes-take w s b),
+  number-bound w (take w (drop w s)) (length-take-le w (drop w s) (rw length-drop (omega arith))) (bytes-take w (drop w s) (bytes-drop w s b)),
+  rangesIn-fits ws (drop (w + w) s) (rw length-drop (omega arith)) (bytes-drop (w + w) s b),
+)
+
+pub ruleIn-fits : (s : List ℕ) → recordSize ≤ length s → Each Byte s → RuleFits (ruleIn s)
+unfolding ruleIn
+ruleIn-fits s h b = (
+  rangesIn-fits widths s (omega arith) b,
+  number-bound actionSize (take actionSize (drop boxSize s)) (length-take-le actionSize (drop boxSize s) (rw length-drop (omega arith))) (bytes-take actionSize (drop boxSize s) (bytes-drop boxSize s b)),
+)
+
 pub boxBytes-length : (b : Region) → Fits widths b → length (boxBytes b) ≡ boxSize
 boxBytes-length b h = rangesBytes-length widths b (fits-length widths b h)
 

@@ -6,7 +6,7 @@ use mathlib.Core.Path.{_≡_, ap}
 use Prim.Native.Nat.{ℕ, _+_, _*_, _-_, _≤_}
 use lib.ListN.{length, drop}
 use Rattle.policy.specs.Fields.{countSize, recordSize}
-use Rattle.policy.specs.Edit.{denies}
+use Rattle.policy.specs.Rules.{denies}
 use Rattle.wire.specs.Records.{rulesIn}
 use Rattle.sheet.specs.Readers.{rulesOf}
 use Rattle.sheet.proofs.Loops.{rules-left, no-rules, deny-counts, allow-skips, no-denies}

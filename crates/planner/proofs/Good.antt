@@ -1,0 +1,125 @@
+-- What an accepted move writes is a pair sheet: its groups are proper and counted, it fits its buffer, and its lists are lists.
+-- Assumes nothing.
+use mathlib.Core.Path.{_≡_, refl, ap, sym, _∙_}
+use mathlib.Core.List.{List, [], _∷_, _++_}
+use mathlib.Core.Bool.{Bool, true, false, false≢true}
+use Prim.Native.Nat.{ℕ, suc, _+_, _*_, _-_, _<_, _≤_}
+use native.Mathlib.Omega.{arith}
+use lib.Dec.{leb, ltb}
+use lib.ListN.{length, length-append, length-map}
+use borrow.Author.Tests.{ltb-false, le-ltb}
+use Rattle.lists.specs.Lists.{Each, every}
+use Rattle.lists.proofs.Tests.{and-both}
+use Rattle.lists.proofs.Lists.{each-append, each-imp}
+use Rattle.policy.specs.Fields.{highest, widths, boxSize, recordSize, countSize, Limits}
+use Rattle.policy.specs.Ranges.{Region, proper, everyField, fullOver}
+use Rattle.policy.specs.Rules.{Rule, rule, full, sound, complete, denies}
+use Rattle.policy.specs.Refusals.{given, orElse, faults}
+use Rattle.policy.specs.Move.{slots, slotsOf, startOf, boxesOf, together, work, room, Order, Pair, moved, denials, gateList, cellList, badCount, listRefusal, moveRefusal}
+use Rattle.policy.proofs.Numbers.{orElse-zero, orElse-both, given-zero}
+use Rattle.policy.proofs.Proper.{Proper, moved-proper}
+use Rattle.policy.proofs.Edits.{Accepted, move-accepted, list-accepted, slots-length, faults-append}
+use Rattle.wire.specs.Records.{Fits}
+use Rattle.wire.proofs.Records.{proper-fits, boxesBytes-length, RuleFits}
+use Rattle.wire.proofs.Numbers.{numberBytes-length}
+use Rattle.sheet.specs.Sections.{sectionSize, sectionBytes}
+use Rattle.sheet.specs.Orders.{orderBytes, orderSize}
+use Rattle.sheet.specs.Pairs.{groupBytes, groupsBytes, pairBytes, pairSize}
+use Rattle.sheet.proofs.Sections.{sectionBytes-length}
+use Rattle.sheet.proofs.Outcomes.{each-every, faultless}
+use Rattle.sheet.proofs.Orders.{ListFits, faultless-fits}
+use Rattle.sheet.proofs.Pairs.{ProperGroup, GroupsGood, PairGood, denies-most}
+
+every-each : {A : Type 0} (f : A → Bool) (l : List A) → Each (λ (a : A). f a ≡ true) l → every f l ≡ true
+unfolding Each every
+every-each f [] h = refl
+every-each f (a ∷ l) h = and-both (f a) (every f l) (h .0) (every-each f l (h .1))
+
+pub moved-good : (lim : Limits) (o : Order) → moveRefusal lim o ≡ 0 → PairGood lim (moved o)
+unfolding room
+moved-good lim o h =
+    let a = move-accepted lim o h in
+    let f = list-accepted (lim .gate) (o .gate) (a .gate) in
+    let r = orElse-zero (work lim (slotsOf o)) _ (a .room) in
+    let t = ltb-false (lim .total) (length (together (moved o .groups)) + length (o .own)) (given-zero _ 6 (r .1)) in
+    record {
+      gate = a .gate;
+      own = a .own;
+      groups = record {
+        count = length-map (slotsOf o) boxesOf ∙ slots-length (startOf o) [] (o .gate);
+        boxes = each-imp (Each Proper) ProperGroup (moved o .groups) (λ g p. every-each (proper highest) g p) (moved-proper o (f .0));
+        within = omega arith;
+      };
+    }
+
+-- how long the bytes of groups and of a pair are
+groups-length : (gs : List (List Region)) → Each ProperGroup gs → length (groupsBytes gs) ≡ countSize * length gs + boxSize * length (together gs)
+unfolding groupsBytes groupBytes together Each
+groups-length [] h = refl
+groups-length (g ∷ gs) h =
+    let i = groups-length gs (h .1) in
+    let b = boxesBytes-length g (each-every (proper highest) (Fits widths) proper-fits g (h .0)) in
+    rw (length-append, length-append, length-append, numberBytes-length) (omega arith)
+
+module _ (lim : Limits) (p : Pair) (u : lim .gate < 65536) (v : lim .own < 65536) (good : PairGood lim p) where
+  pub pair-length : length (pairBytes p) ≡ sectionSize (length (p .order .gate)) + sectionSize (length (p .order .own)) + (countSize + (countSize * length (p .groups) + boxSize * length (together (p .groups))))
+  unfolding pairBytes orderBytes
+  pair-length =
+      let g = sectionBytes-length (p .order .gate) (faultless-fits (lim .gate) (p .order .gate) u (good .gate) .rules) in
+      let w = sectionBytes-length (p .order .own) (faultless-fits (lim .own) (p .order .own) v (good .own) .rules) in
+      let c = groups-length (p .groups) (good .groups .boxes) in
+      rw (length-append, length-append, length-append, numberBytes-length) (omega arith)
+
+  pub pair-short : lim .own ≤ lim .total → length (pairBytes p) ≤ pairSize lim
+  pair-short h =
+      let a = faultless (lim .gate) (p .order .gate) (good .gate) in
+      let b = faultless (lim .own) (p .order .own) (good .own) in
+      let d = denies-most (p .order .gate) in
+      let t = good .groups .within in
+      let n = good .groups .count in
+      rw pair-length (omega arith)
+
+-- The lists of an accepted move have no fault as lists of the cell's total.
+complete-behind : (x l : List Rule) → complete l ≡ true → complete (x ++ l) ≡ true
+unfolding complete
+complete-behind [] l h = h
+complete-behind (r ∷ []) [] h = absurd (false≢true h)
+complete-behind (r ∷ []) (q ∷ l) h = h
+complete-behind (r ∷ (q ∷ x)) l h = complete-behind (q ∷ x) l h
+
+denials-length : (bs : List Region) → length (denials bs) ≡ length bs
+unfolding denials
+denials-length [] = refl
+denials-length (b ∷ bs) = ap suc (denials-length bs)
+
+denials-sound : (bs : List Region) → Each Proper bs → faults (denials bs) ≡ 0
+unfolding denials faults sound Each
+denials-sound [] h = refl
+denials-sound (b ∷ bs) h = rw (h .0) (denials-sound bs (h .1))
+
+together-each : (P : Region → Type 0) (gs : List (List Region)) → Each (Each P) gs → Each P (together gs)
+unfolding Each together
+together-each P [] h = tt
+together-each P (g ∷ gs) h = each-append P g (together gs) (h .0) (together-each P gs (h .1))
+
+list-none : (most : ℕ) (l : List Rule) → 1 ≤ length l → length l ≤ most → faults l ≡ 0 → complete l ≡ true → listRefusal most l ≡ 0
+unfolding listRefusal
+list-none most l a b f c = rw (le-ltb (length l) 1 a, le-ltb most (length l) b, f, c)
+
+pub gate-list-good : (lim : Limits) (p : Pair) → 1 ≤ lim .total → listRefusal (lim .total) (gateList p) ≡ 0
+unfolding faults sound complete highest everyField fullOver
+gate-list-good lim p h = list-none (lim .total) (gateList p) (omega arith) (omega arith) refl refl
+
+pub cell-list-good : (lim : Limits) (o : Order) → moveRefusal lim o ≡ 0 → listRefusal (lim .total) (cellList (moved o)) ≡ 0
+cell-list-good lim o h =
+    let g = moved-good lim o h in
+    let a = move-accepted lim o h in
+    let f = list-accepted (lim .gate) (o .gate) (a .gate) in
+    let w = list-accepted (lim .own) (o .own) (a .own) in
+    let b = faultless (lim .own) (o .own) (a .own) in
+    let bs : List Region = together (moved o .groups) in
+    let n : length (cellList (moved o)) ≡ length bs + length (o .own) = length-append (denials bs) (o .own) ∙ ap (λ (k : ℕ). k + length (o .own)) (denials-length bs) in
+    let t = g .groups .within in
+    list-none (lim .total) (cellList (moved o)) (omega arith) (omega arith)
+    (faults-append (denials bs) (o .own) ∙ orElse-both _ _ (denials-sound bs (together-each Proper (moved o .groups) (moved-proper o (f .0)))) (w .0))
+    (complete-behind (denials bs) (o .own) (w .1))

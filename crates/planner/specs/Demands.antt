@@ -1,0 +1,76 @@
+-- Demands 2 and 3 at the level of bytes, over the functions that the calls' statements name. The theorems that they hold stand
+-- in proofs/Demands.antt. Assumes nothing.
+use mathlib.Core.Path.{_≡_}
+use mathlib.Core.List.{List, [], _∷_}
+use mathlib.Core.Bool.{Bool, true}
+use Prim.Native.Nat.{ℕ}
+use lib.ListN.{length}
+use Rattle.policy.specs.Fields.{Limits}
+use Rattle.policy.specs.Ranges.{Packet}
+use Rattle.policy.specs.Rules.{Rule, drops, forwards}
+use Rattle.policy.specs.Cut.{anyHas}
+use Rattle.policy.specs.Refusals.{Outcome, accepted, refused}
+use Rattle.policy.specs.Move.{together, Order, Pair, moved, gateList, cellList}
+use Rattle.policy.specs.Edit.{Edit, newOrder, allDone}
+use Rattle.sheet.specs.Sections.{sectionBytes}
+use Rattle.sheet.specs.Orders.{orderIn, orderBytes, listIn}
+use Rattle.sheet.specs.Pairs.{pairIn, pairBytes, pairSize}
+use Rattle.planner.specs.Calls.{moveOf, checkOf, written, lengthOf}
+use Rattle.planner.specs.Edits.{Asked, editOf, editedOf}
+
+-- Demand 2 of an order sheet's bytes that a move accepts with the pair p. Its lists o are those that the bytes say, and say
+-- the same bytes; the sheet written is read as p, and passes check; its two lists, read from their bytes, forward a packet
+-- exactly if the two lists of the order sheet did, and the boxes have exactly what the gate dropped.
+pub record DemandTwo (lim : Limits) (s : List ℕ) (o : Order) (p : Pair) : Type 0 where
+  pub order : orderIn lim s ≡ accepted o
+  pub bytes : orderBytes o ≡ s
+  pub pair : p ≡ moved o
+  pub sheet : pairIn lim (pairBytes p) ≡ accepted p
+  pub checks : checkOf lim (pairBytes p) true ≡ accepted p
+  pub gate : listIn (lim .total) (sectionBytes (gateList p)) ≡ accepted (gateList p)
+  pub cell : listIn (lim .total) (sectionBytes (cellList p)) ≡ accepted (cellList p)
+  pub forwarded : (q : Packet) → forwards q (gateList p) (cellList p) ≡ forwards q (o .gate) (o .own)
+  pub boxes : (q : Packet) → anyHas q (together (p .groups)) ≡ drops q (o .gate)
+
+-- A sheet in its buffer, and the length that is stated of it.
+pub record Held : Type 0 where
+  pub buffer : List ℕ
+  pub used : ℕ
+
+-- What an accepted move leaves in a buffer.
+abbrev pub held : Limits → List ℕ → Pair → Held
+held lim out p = record { buffer = written pairBytes (pairSize lim) out (accepted p); used = length (pairBytes p) }
+
+-- One edit call with buffers long enough and the true length: accepted, the sheet it writes and its length; refused, no change.
+unfoldable pub after : Limits → Held → Outcome Pair → Held
+after lim h (accepted p) = held lim (h .buffer) p
+after lim h (refused n) = h
+
+abbrev pub edits : Limits → Asked → Held → Outcome Pair
+edits lim a h = editedOf lim (h .buffer) (h .used) a true
+
+-- A run of edit calls, and the edits among them that were accepted.
+unfoldable pub runCalls : Limits → List Asked → Held → Held
+runCalls lim [] h = h
+runCalls lim (a ∷ l) h = runCalls lim l (after lim h (edits lim a h))
+
+abbrev pub ifTaken : Outcome Pair → Edit → List Edit → List Edit
+ifTaken (accepted p) e l = e ∷ l
+ifTaken (refused n) e l = l
+
+unfoldable pub taken : Limits → List Asked → Held → List Edit
+taken lim [] h = []
+taken lim (a ∷ l) h = ifTaken (edits lim a h) (editOf a) (taken lim l (after lim h (edits lim a h)))
+
+-- Demand 3, a run that starts from what an accepted move of o left in the buffer `out`: the buffer is, byte for byte, what a
+-- fresh move of the first lists, as the accepted edits have changed them one after another, leaves there; that move is
+-- accepted; and the length is its answer.
+pub record DemandThree (lim : Limits) (out : List ℕ) (o : Order) (l : List Asked) (now : Order) : Type 0 where
+  pub lists : now ≡ allDone (taken lim l (held lim out (moved o))) o
+  pub accepts : moveOf lim (orderBytes now) true ≡ accepted (moved now)
+  pub sheet : runCalls lim l (held lim out (moved o)) ≡ held lim out (moved now)
+
+-- Demand 3, one edit that names A or B, a place that exists and a whole record: it is refused exactly when a fresh move of the
+-- edited lists is, with the same number, and otherwise gives the same pair.
+pub record EditAsFresh (lim : Limits) (out : List ℕ) (o : Order) (a : Asked) : Type 0 where
+  pub same : edits lim a (held lim out (moved o)) ≡ moveOf lim (orderBytes (newOrder (editOf a) o)) true

@@ -1,0 +1,59 @@
+-- Edit: a pair sheet in its buffer changed at one place (01, Calls and Numbers given back). Assumes nothing.
+use mathlib.Core.Path.{_≡_}
+use mathlib.Core.List.{List}
+use mathlib.Core.Bool.{Bool, true, false, cond, _&&_}
+use Prim.Native.Nat.{ℕ}
+use lib.Dec.{leb, eqb}
+use lib.ListN.{length, take}
+use Rattle.policy.specs.Fields.{recordSize, Limits, limits}
+use Rattle.policy.specs.Refusals.{Outcome, test, andThen, unless, said}
+use Rattle.policy.specs.Move.{Pair}
+use Rattle.policy.specs.Edit.{Kind, insert, delete, replace, Edit, placeFound, edited, changeRefusal}
+use Rattle.policy.specs.declared.Answer.{Answer}
+use Rattle.wire.specs.Records.{ruleIn}
+use Rattle.groups.specs.Worked.{workSize}
+use Rattle.sheet.specs.Pairs.{pairIn, pairBytes, pairSize}
+use Rattle.planner.specs.Calls.{roomFor, workAfter, written, lengthOf}
+use Rattle.planner.specs.declared.Change.{Change}
+use Rattle.planner.specs.declared.Change.the-variants.{Insert, Delete, Replace}
+
+-- An edit as it is asked for: the list (0 is A, 1 is B), the place, what to do there, and the record's bytes, which a delete
+-- does not look at.
+pub record Asked : Type 0 where
+  pub list : ℕ
+  pub place : ℕ
+  pub change : Change
+  pub bytes : List ℕ
+
+abbrev pub kindOf : Change → List ℕ → Kind
+kindOf Insert s = insert (ruleIn s)
+kindOf Delete s = delete
+kindOf Replace s = replace (ruleIn s)
+
+abbrev pub editOf : Asked → Edit
+editOf a = record { inGate = eqb (a .list) 0; place = a .place; kind = kindOf (a .change) (a .bytes) }
+
+-- 3: the record, where one is put in, has a record's length.
+abbrev pub wholeRecord : Change → List ℕ → Bool
+wholeRecord Insert s = eqb (length s) recordSize
+wholeRecord Delete s = true
+wholeRecord Replace s = eqb (length s) recordSize
+
+-- On a pair that was read: 9 (also for a list that is neither A nor B), 3 for the record's length, then 2, 4, 5, 6, 7.
+unfoldable pub changeOf : Limits → Asked → Pair → Outcome Pair
+changeOf lim a p =
+    test (leb (a .list) 1 && placeFound (editOf a) (p .order)) 9
+    (test (wholeRecord (a .change) (a .bytes)) 3 (unless (changeRefusal lim (editOf a) p) (edited (editOf a) p)))
+
+-- Number 1: the sheet's buffer and the work buffer are long enough, and the stated length is not above the former.
+abbrev pub editLent : Limits → List ℕ → ℕ → List ℕ → Bool
+editLent lim sheet used work = roomFor (pairSize lim) sheet && (leb used (length sheet) && roomFor (workSize lim) work)
+
+-- 1, what reading the pair sheet of the stated length gives, then the change.
+unfoldable pub editedOf : Limits → List ℕ → ℕ → Asked → Bool → Outcome Pair
+editedOf lim sheet used a lent = test lent 1 (andThen (pairIn lim (take used sheet)) (changeOf lim a))
+
+pub record Edits (buffer : List ℕ) (used : ℕ) (a : Asked) (w : List ℕ) (r : Answer) (buffer′ w′ : List ℕ) : Type 0 where
+  pub answer : said r ≡ lengthOf pairBytes (editedOf limits buffer used a (editLent limits buffer used w))
+  pub sheet : buffer′ ≡ written pairBytes (pairSize limits) buffer (editedOf limits buffer used a (editLent limits buffer used w))
+  pub work : w′ ≡ workAfter limits (editLent limits buffer used w) w
