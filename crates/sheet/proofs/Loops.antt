@@ -9,11 +9,7 @@ use lib.Seq.{drop-drop}
 use borrow.Author.Tests.{not-true, not-false, eq-eqb, ne-eqb}
 use Rattle.lists.specs.Lists.{every}
 use Rattle.policy.specs.Fields.{boxSize, recordSize}
-<<<<<<< HEAD
-use Rattle.policy.specs.Ranges.{Region}
 use Rattle.policy.specs.Rules.{Rule, isAllow, denies}
-=======
->>>>>>> e02484eb3024cdc2785506560e398027943ffa20
 use Rattle.wire.specs.Records.{boxIn, boxesIn, ruleIn, rulesIn}
 
 -- What is left at turn i begins with the item at the place reached.

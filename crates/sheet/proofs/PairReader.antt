@@ -8,13 +8,8 @@ use lib.ListN.{length, take, drop, length-drop}
 use lib.Seq.{drop-drop}
 use borrow.Author.Tests.{le-leb, lt-leb, eq-eqb, ne-eqb}
 use Rattle.policy.specs.Fields.{limits, countSize}
-<<<<<<< HEAD
 use Rattle.policy.specs.Rules.{Rule, denies}
-use Rattle.policy.specs.Refusals.{accepted, refused, andThen, numberOf}
-use Rattle.policy.specs.Move.{Pair}
-=======
 use Rattle.policy.specs.Refusals.{refused, andThen, numberOf}
->>>>>>> e02484eb3024cdc2785506560e398027943ffa20
 use Rattle.policy.specs.declared.Refusal.{Refusal}
 use Rattle.policy.specs.declared.Refusal.the-variants.{LengthWrong, GroupsDiffer}
 use Rattle.wire.proofs.Records.{rulesIn-length}

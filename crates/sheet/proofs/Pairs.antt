@@ -11,20 +11,12 @@ use borrow.Author.Tests.{le-leb, leb-true, eq-eqb, eqb-true}
 use Rattle.lists.specs.Lists.{Each, every}
 use Rattle.policy.specs.Fields.{Limits, highest, widths, boxSize, countSize}
 use Rattle.policy.specs.Ranges.{Region, proper}
-<<<<<<< HEAD
 use Rattle.policy.specs.Rules.{Rule, isAllow, denies}
-use Rattle.policy.specs.Refusals.{Outcome, accepted, refused, andThen, orElse, unless}
-use Rattle.policy.specs.Move.{Order, Pair, together, listRefusal}
-use Rattle.wire.specs.Numbers.{numberBytes, numberIn, Byte}
-use Rattle.wire.specs.Records.{Fits, boxesBytes, boxesIn}
-use Rattle.wire.proofs.Numbers.{numberBytes-length, number-back, bytes-back, bytes-take, bytes-drop}
-=======
 use Rattle.policy.specs.Refusals.{accepted, andThen}
 use Rattle.policy.specs.Move.{Order, Pair, together, listRefusal}
 use Rattle.wire.specs.Numbers.{numberBytes, Byte}
 use Rattle.wire.specs.Records.{Fits, boxesBytes}
 use Rattle.wire.proofs.Numbers.{numberBytes-length, bytes-drop}
->>>>>>> e02484eb3024cdc2785506560e398027943ffa20
 use Rattle.wire.proofs.Records.{proper-fits, boxesIn-length, boxesBytes-length, boxes-back, boxes-written-back}
 use Rattle.sheet.specs.Sections.{Reading, reading, countIn}
 use Rattle.sheet.specs.Orders.{order, orderBytes}
