@@ -75,7 +75,7 @@ pub record Small (lim : Limits) : Type 0 where
 
 module _ (lim : Limits) (small : Small lim) where
   -- a move of the bytes of lists that fit them answers as the move of the lists
-  move-back : (o : Order) → ListFits (o .gate) → ListFits (o .own) → moveOf lim (orderBytes o) true ≡ unless (moveRefusal lim o) (moved o)
+  move-back : (o : Order) → ListFits (o .gate) → ListFits (o .own) → moveOf lim (orderBytes o) ≡ unless (moveRefusal lim o) (moved o)
   unfolding moveOf moveRefusal planOf
   move-back o g w =
       rw (order-back lim o g w, ← orElse-assoc (listRefusal (lim .gate) (o .gate)) (listRefusal (lim .own) (o .own)) (room lim o (slotsOf o)))
@@ -86,7 +86,7 @@ module _ (lim : Limits) (small : Small lim) where
       let a = move-accepted lim o h in
       (faultless-fits (lim .gate) (o .gate) (omega (arith, small .gate)) (a .gate), faultless-fits (lim .own) (o .own) (omega (arith, small .own)) (a .own))
 
-  move-again : (o : Order) → moveRefusal lim o ≡ 0 → moveOf lim (orderBytes o) true ≡ accepted (moved o)
+  move-again : (o : Order) → moveRefusal lim o ≡ 0 → moveOf lim (orderBytes o) ≡ accepted (moved o)
   move-again o h = let f = move-fits o h in move-back o (f .0) (f .1) ∙ unless-none (moveRefusal lim o) (moved o) h
 
   sheet-back : (o : Order) → moveRefusal lim o ≡ 0 → pairIn lim (pairBytes (moved o)) ≡ accepted (moved o)
@@ -102,7 +102,7 @@ module _ (lim : Limits) (small : Small lim) where
     pub none : moveRefusal lim order ≡ 0
     pub pair : p ≡ moved order
 
-  move-read : (s : List ℕ) (p : Pair) → moveOf lim s true ≡ accepted p → Read s p
+  move-read : (s : List ℕ) (p : Pair) → moveOf lim s ≡ accepted p → Read s p
   unfolding moveOf planOf moveRefusal
   move-read s p e =
       let a = through (orderIn lim s) _ p e in
@@ -136,7 +136,7 @@ module _ (lim : Limits) (small : Small lim) where
       }
 
   -- Demand 2.
-  pub demand-two : (s : List ℕ) (p : Pair) → Each Byte s → moveOf lim s true ≡ accepted p → (o : Order) × DemandTwo lim s o p
+  pub demand-two : (s : List ℕ) (p : Pair) → Each Byte s → moveOf lim s ≡ accepted p → (o : Order) × DemandTwo lim s o p
   demand-two s p b e =
       let r = move-read s p e in
       (r .order, subst (λ (q : Pair). DemandTwo lim s (r .order) q) (sym (r .pair)) (moved-demand-two s (r .order) b (r .reads) (r .none)))

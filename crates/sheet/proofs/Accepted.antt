@@ -8,9 +8,9 @@ use lib.ListN.{length, take, drop, length-append}
 use lib.Seq.{take-at, drop-at, drop-drop}
 use Rattle.lists.specs.Lists.{Each}
 use Rattle.policy.specs.Fields.{countSize, limits}
-use Rattle.policy.specs.Rules.{denies}
 use Rattle.policy.specs.Refusals.{accepted, refused, numberOf}
 use Rattle.policy.specs.Move.{Order, Pair, listRefusal}
+use Rattle.policy.specs.Rules.{denies}
 use Rattle.policy.specs.declared.Refusal.{Refusal}
 use Rattle.wire.specs.Numbers.{numberBytes, Byte}
 use Rattle.wire.proofs.Numbers.{numberBytes-length}
