@@ -4,8 +4,6 @@
 
 enum { FIELDS = 5, RECORD = 27, COUNT = 2, MOST = 1024 };
 
-static const size_t width[FIELDS] = {4, 4, 2, 2, 1};
-
 static uint32_t refusal(uint32_t n) { return 65536 + n; }
 
 /* The count, or 0 and the refusal in *answer. */
@@ -20,13 +18,11 @@ static size_t head(const uint8_t *list, size_t length, uint32_t *answer) {
     return count;
 }
 
-/* Plain loops over the fields' table. */
-static uint32_t number(const uint8_t *s, size_t w) {
-    uint32_t x = 0;
-    for (size_t i = 0; i < w; i++) x = x << 8 | s[i];
-    return x;
-}
+static uint32_t four(const uint8_t *s) { return (uint32_t)s[0] << 24 | (uint32_t)s[1] << 16 | (uint32_t)s[2] << 8 | s[3]; }
 
+static uint32_t two(const uint8_t *s) { return (uint32_t)s[0] << 8 | s[1]; }
+
+/* Loops over the fields, left at the first that is outside. */
 uint32_t lookup_loops(uint32_t src, uint32_t dst, uint32_t sport, uint32_t dport, uint32_t proto, const uint8_t *list, size_t length) {
     const uint32_t packet[FIELDS] = {src, dst, sport, dport, proto};
     uint32_t answer;
@@ -34,28 +30,21 @@ uint32_t lookup_loops(uint32_t src, uint32_t dst, uint32_t sport, uint32_t dport
     if (count == 0) return answer;
     const uint8_t *s = list + COUNT;
     for (size_t i = 0; i < count; i++, s += RECORD) {
-        uint32_t low[FIELDS], high[FIELDS];
-        size_t at = 0;
-        for (int k = 0; k < FIELDS; k++) {
-            low[k] = number(s + at, width[k]);
-            high[k] = number(s + at + width[k], width[k]);
-            at += 2 * width[k];
-        }
+        const uint32_t low[FIELDS] = {four(s), four(s + 8), two(s + 16), two(s + 20), s[24]};
+        const uint32_t high[FIELDS] = {four(s + 4), four(s + 12), two(s + 18), two(s + 22), s[25]};
+        const uint32_t action = s[26];
         for (int k = 0; k < FIELDS; k++)
             if (low[k] > high[k]) return refusal(4);
-        if (s[at] > 1) return refusal(4);
+        if (action > 1) return refusal(4);
         int k = 0;
-        while (k < FIELDS && low[k] <= packet[k] && packet[k] <= high[k]) k++;
-        if (k == FIELDS) return 2 * (uint32_t)i + s[at];
+        for (; k < FIELDS; k++)
+            if (packet[k] < low[k] || packet[k] > high[k]) break;
+        if (k == FIELDS) return 2 * (uint32_t)i + action;
     }
     return refusal(5);
 }
 
 /* Every field by hand. */
-static uint32_t four(const uint8_t *s) { return (uint32_t)s[0] << 24 | (uint32_t)s[1] << 16 | (uint32_t)s[2] << 8 | s[3]; }
-
-static uint32_t two(const uint8_t *s) { return (uint32_t)s[0] << 8 | s[1]; }
-
 uint32_t lookup_straight(uint32_t src, uint32_t dst, uint32_t sport, uint32_t dport, uint32_t proto, const uint8_t *list, size_t length) {
     uint32_t answer;
     size_t count = head(list, length, &answer);

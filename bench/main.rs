@@ -132,7 +132,8 @@ fn main() {
     let model = cpu.lines().find(|l| l.starts_with("model name")).and_then(|l| l.split(':').nth(1)).unwrap_or(" unknown");
     println!("machine:{} ({})", model, std::env::consts::ARCH);
     println!("{RULES} rules, the last fits; median of {ROUNDS} rounds of {CALLS} calls, versions in turn; ns a lookup");
-    println!("one list is met again and again, so its branches are predictable; 16 lists in turn are hardly so");
+    println!("one list is met again and again, so its branches are predictable; those of 16 mixed lists in turn are not");
+    println!("gcc makes branch-free code of the C loops: about the same time on every list");
     let versions: [(&str, fn(&Packet, &[u8]) -> u32); 4] = [("library", library), ("C loops", c_loops), ("C straight", c_straight), ("safe Rust", rust)];
     let p: Packet = [3_000_000_000, 2_000_000_000, 30_000, 40_000, 100];
     let mut random = Random(0x9E37_79B9_7F4A_7C15);
@@ -144,7 +145,7 @@ fn main() {
     for (name, _) in &versions {
         print!("{name:>12}");
     }
-    println!("{:>8}", "ratio");
+    println!("{:>20}", "library / fastest");
     for (what, miss, how_many) in kinds {
         let lists: Vec<Vec<u8>> = (0..how_many).map(|_| list(&mut random, &p, miss)).collect();
         for l in &lists {
@@ -170,6 +171,6 @@ fn main() {
             print!("{m:>12.0}");
         }
         let best = medians[1..].iter().copied().fold(f64::MAX, f64::min);
-        println!("{:>8.2}", medians[0] / best);
+        println!("{:>20.2}", medians[0] / best);
     }
 }

@@ -1,6 +1,6 @@
 -- Laws of a verdict: it is known from what it says, its place and action are small, and it is the number for C.
 -- Assumes nothing.
-use mathlib.Core.Path.{_≡_, ap, sym, _∙_, subst}
+use mathlib.Core.Path.{_≡_, refl, ap, sym, _∙_, subst}
 use mathlib.Core.List.{List, [], _∷_}
 use mathlib.Core.Bool.{Bool, true, false, cond}
 use Prim.Native.Nat.{ℕ, suc, _+_, _*_, _<_, _≤_}
@@ -11,7 +11,7 @@ use borrow.Author.Tests.{leb-true}
 use Rattle.policy.specs.Fields.{countSize}
 use Rattle.policy.specs.Ranges.{Packet, inside}
 use Rattle.policy.specs.Rules.{Rule, sound}
-use Rattle.policy.specs.Refusals.{Outcome, accepted, test, numberOf}
+use Rattle.policy.specs.Refusals.{Outcome, accepted, refused, test, numberOf}
 use Rattle.policy.specs.declared.Refusal.{Refusal}
 use Rattle.policy.proofs.Answers.{number-once, test-accepted}
 use Rattle.wire.specs.Numbers.{numberIn}
@@ -81,3 +81,21 @@ module _ (most : ℕ) (p : Packet) (s : List ℕ) (v : Verdict) (says : verdict 
   pub refused-number : (f : Refusal) (m : ℕ) → v ≡ Refused f → m ≡ numberOf f → refusalBase + m ≡ lookupNumber (lookup most p s)
   unfolding lookupNumber
   refused-number f m is e = rw e (sym (ap lookupNumber (sym says ∙ ap verdict is)))
+
+-- The number for C tells the whole outcome: no two outcomes of lookups have the same.
+tells : (n : ℕ) → 2 * n ≤ refusalBase → (o q : Outcome Hit) → ((h : Hit) → o ≡ accepted h → Small n h) → ((h : Hit) → q ≡ accepted h → Small n h)
+    → lookupNumber o ≡ lookupNumber q → o ≡ q
+unfolding lookupNumber
+tells n b (accepted h) (accepted k) f g e =
+    let x = f h refl in
+    let y = g k refl in
+    let d : h .place ≡ k .place = omega arith in
+    let c : h .action ≡ k .action = omega arith in
+    ap accepted (λ i. hit (d i) (c i))
+tells n b (accepted h) (refused m) f g e = let x = f h refl in absurd (omega arith)
+tells n b (refused m) (accepted k) f g e = let y = g k refl in absurd (omega arith)
+tells n b (refused m) (refused l) f g e = ap refused (omega arith)
+
+pub number-tells : (most : ℕ) → 2 * most ≤ refusalBase → (p q : Packet) (s t : List ℕ) → lookupNumber (lookup most p s) ≡ lookupNumber (lookup most q t)
+    → lookup most p s ≡ lookup most q t
+number-tells most b p q s t e = tells most b (lookup most p s) (lookup most q t) (lookup-small most p s) (lookup-small most q t) e
