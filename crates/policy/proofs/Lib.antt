@@ -8,3 +8,4 @@ pub mod Kept
 pub mod Checks
 pub mod Boundary
 pub mod Demands
+pub mod Answers

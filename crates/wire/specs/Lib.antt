@@ -1,3 +1,4 @@
 pub mod Numbers
 pub mod Records
 pub mod Buffers
+pub mod RecordCalls

@@ -1,0 +1,6 @@
+pub mod Numbers
+pub mod Items
+pub mod Records
+pub mod Buffers
+pub mod Steps
+pub mod RecordCalls

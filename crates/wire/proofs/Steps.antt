@@ -1,0 +1,122 @@
+-- What one turn of reading and of writing a box does, and a record from its box. Assumes nothing.
+use mathlib.Core.Path.{_≡_, refl, ap, sym, _∙_}
+use mathlib.Core.List.{List, [], _∷_, _++_, append-assoc, append-nil}
+use mathlib.Core.Bool.{Bool, true}
+use Prim.Native.Nat.{ℕ, zero, suc, _+_, _<_, _≤_, min}
+use native.Mathlib.Omega.{arith}
+use native.Mathlib.Numerals.{add-one}
+use lib.ListN.{length, getD, set, drop, take, length-take, length-drop, drop-of-length-le}
+use lib.Seq.{sets, take-suc, getD-drop, take-all, drop-cons, drop-drop, take-suc-set}
+use Rattle.lists.specs.Lists.{every}
+use Rattle.lists.proofs.Tests.{and-true}
+use Rattle.policy.specs.Fields.{fields, widths, sizeOf, boxSize, actionSize}
+use Rattle.policy.specs.Ranges.{range, Region}
+use Rattle.policy.specs.Rules.{Rule, rule}
+use Rattle.policy.specs.Values.{ranges, rangeAt}
+use Rattle.policy.proofs.Values.{ranges-length, ranges-at}
+use Rattle.wire.specs.Numbers.{numberBytes, numberIn, isWidth}
+use Rattle.wire.specs.Records.{rangesBytes, rangesIn, boxBytes, boxIn, recordBytes, ruleIn}
+use Rattle.wire.proofs.Numbers.{numberBytes-length}
+use Rattle.wire.proofs.Records.{rangesBytes-length}
+
+-- A run of stores in two parts.
+pub sets-append : (l : List ℕ) (i : ℕ) (u v : List ℕ) → sets l i (u ++ v) ≡ sets (sets l i u) (i + length u) v
+sets-append l i [] v = ap (λ (n : ℕ). sets l n v) (omega arith)
+sets-append l i (a ∷ u) v = sets-append (set l i a) (suc i) u v ∙ ap (λ (n : ℕ). sets (sets (set l i a) (suc i) u) n v) (omega arith)
+
+-- Every entry of a table passes a test that is computed over the whole table.
+every-at : (f : ℕ → Bool) (l : List ℕ) → every f l ≡ true → (k : ℕ) → k < length l → f (getD l k 0) ≡ true
+unfolding every
+every-at f [] e k h = absurd (omega arith)
+every-at f (x ∷ l) e zero h = and-true (f x) (every f l) e .0
+every-at f (x ∷ l) e (suc k) h = every-at f l (and-true (f x) (every f l) e .1) k (omega arith)
+
+pub width-at : (k : ℕ) → k < fields → isWidth (getD widths k 0) ≡ true
+unfolding every isWidth
+width-at k h = every-at isWidth widths refl k h
+
+pub size-step : (ws : List ℕ) (k : ℕ) → k < length ws → sizeOf (drop k ws) ≡ getD ws k 0 + getD ws k 0 + sizeOf (drop (k + 1) ws)
+size-step ws k h = rw (add-one, drop-cons ws k 0 h)
+
+-- One more field of a box under way.
+ranges-last : (ls hs : List ℕ) (l h : ℕ) → length ls ≡ length hs → ranges (ls ++ (l ∷ [])) (hs ++ (h ∷ [])) ≡ ranges ls hs ++ (range l h ∷ [])
+unfolding ranges
+ranges-last [] [] l h e = refl
+ranges-last [] (y ∷ hs) l h e = absurd (omega arith)
+ranges-last (x ∷ ls) [] l h e = absurd (omega arith)
+ranges-last (x ∷ ls) (y ∷ hs) l h e = ap (λ (b : Region). range x y ∷ b) (ranges-last ls hs l h (omega arith))
+
+ranges-next : (ls hs : List ℕ) (k l h : ℕ) → length ls ≡ length hs → k < length ls
+    → ranges (take (k + 1) (set ls k l)) (take (k + 1) (set hs k h)) ≡ ranges (take k ls) (take k hs) ++ (range l h ∷ [])
+ranges-next ls hs k l h e g =
+    let g′ : k < length hs = omega arith in
+    rw (add-one, take-suc-set ls k l g, take-suc-set hs k h g′)
+    (ranges-last (take k ls) (take k hs) l h (length-take k ls ∙ ap (λ (n : ℕ). min k n) e ∙ sym (length-take k hs)))
+
+module _ (ws : List ℕ) (k : ℕ) (fits : k < length ws) where
+  write-step : (b : Region) → k < length b
+      → rangesBytes (drop k ws) (drop k b) ≡ numberBytes (getD ws k 0) (rangeAt b k .low) ++ (numberBytes (getD ws k 0) (rangeAt b k .high) ++ rangesBytes (drop (k + 1) ws) (drop (k + 1) b))
+  unfolding rangesBytes
+  write-step b g = rw (add-one, drop-cons ws k 0 fits, drop-cons b k (range 0 0) g)
+
+  read-step : (s : List ℕ) (p : ℕ)
+      → rangesIn (drop k ws) (drop p s) ≡ range (numberIn (take (getD ws k 0) (drop p s))) (numberIn (take (getD ws k 0) (drop (p + getD ws k 0) s))) ∷ rangesIn (drop (k + 1) ws) (drop (p + getD ws k 0 + getD ws k 0) s)
+  unfolding rangesIn
+  read-step s p =
+      let w : ℕ = getD ws k 0 in
+      let e : p + (w + w) ≡ p + w + w = omega arith in
+      rw (add-one, drop-cons ws k 0 fits, drop-drop w p s, drop-drop (w + w) p s, e)
+
+  pub read-next : (s low high : List ℕ) (p l h : ℕ) (whole : Region) → length low ≡ length high → k < length low
+      → l ≡ numberIn (take (getD ws k 0) (drop p s)) → h ≡ numberIn (take (getD ws k 0) (drop (p + getD ws k 0) s))
+      → ranges (take k low) (take k high) ++ rangesIn (drop k ws) (drop p s) ≡ whole
+      → ranges (take (k + 1) (set low k l)) (take (k + 1) (set high k h)) ++ rangesIn (drop (k + 1) ws) (drop (p + getD ws k 0 + getD ws k 0) s) ≡ whole
+  read-next s low high p l h whole e g el eh inv =
+      rw (ranges-next low high k l h e g, append-assoc, el, eh) (rw (read-step s p) at inv)
+
+  pub write-next : (out low high : List ℕ) (p : ℕ) (whole : List ℕ) → length low ≡ length high → k < length low
+      → sets out p (rangesBytes (drop k ws) (drop k (ranges low high))) ≡ whole
+      → sets (sets (sets out p (numberBytes (getD ws k 0) (getD low k 0))) (p + getD ws k 0) (numberBytes (getD ws k 0) (getD high k 0))) (p + getD ws k 0 + getD ws k 0)
+      (rangesBytes (drop (k + 1) ws) (drop (k + 1) (ranges low high))) ≡ whole
+  write-next out low high p whole e g inv =
+      let w : ℕ = getD ws k 0 in
+      let b : Region = ranges low high in
+      let g′ : k < length b = omega (arith, ranges-length low high e) in
+      let h : sets out p (numberBytes w (getD low k 0) ++ (numberBytes w (getD high k 0) ++ rangesBytes (drop (k + 1) ws) (drop (k + 1) b))) ≡ whole =
+      rw (write-step b g′, ranges-at low high k e) at inv in
+      rw (sets-append, numberBytes-length, sets-append, numberBytes-length) at h
+
+pub read-last : (ws s low high : List ℕ) (p k : ℕ) (whole : Region) → length ws ≤ k → length low ≤ k → length high ≤ k
+    → ranges (take k low) (take k high) ++ rangesIn (drop k ws) (drop p s) ≡ whole → ranges low high ≡ whole
+unfolding rangesIn
+read-last ws s low high p k whole e l h inv = rw (take-all k low l, take-all k high h, drop-of-length-le ws e, append-nil) at inv
+
+pub write-last : (ws out low high : List ℕ) (p k : ℕ) (whole : List ℕ) → length ws ≤ k
+    → sets out p (rangesBytes (drop k ws) (drop k (ranges low high))) ≡ whole → out ≡ whole
+unfolding rangesBytes
+write-last ws out low high p k whole e inv = rw (drop-of-length-le ws e) at inv
+
+-- A record is its box and, behind it, its action.
+pub rule-read : (s : List ℕ) (at : ℕ) (b : Region) (a : ℕ) → b ≡ boxIn (drop at s) → a ≡ numberIn (take actionSize (drop (at + boxSize) s))
+    → rule b a ≡ ruleIn (drop at s)
+unfolding ruleIn
+rule-read s at b a e g = rw (e, g, drop-drop boxSize at s)
+
+pub rule-put : (out boxed last : List ℕ) (at : ℕ) (r : Rule) → length (r .region) ≡ fields → boxed ≡ sets out at (boxBytes (r .region))
+    → last ≡ sets boxed (at + boxSize) (numberBytes actionSize (r .action)) → last ≡ sets out at (recordBytes r)
+unfolding recordBytes
+rule-put out boxed last at r e u v =
+    rw (sets-append out at (boxBytes (r .region)) (numberBytes actionSize (r .action)), rangesBytes-length widths (r .region) e, ← u) v
+
+-- Values of the fields at a place of a list of numbers, one more of them read or stored.
+pub value-read : (numbers values : List ℕ) (at k : ℕ) → k < length values → at + k < length numbers → take k values ≡ take k (drop at numbers)
+    → take (k + 1) (set values k (getD numbers (at + k) 0)) ≡ take (k + 1) (drop at numbers)
+value-read numbers values at k h g e =
+    let l : k < length (drop at numbers) = rw length-drop (omega arith) in
+    rw (add-one, take-suc-set values k (getD numbers (at + k) 0) h, take-suc (drop at numbers) k 0 l, getD-drop at numbers k 0, e)
+
+pub value-put : (out values : List ℕ) (at k : ℕ) (whole : List ℕ) → k < length values → sets out (at + k) (drop k values) ≡ whole
+    → sets (set out (at + k) (getD values k 0)) (at + (k + 1)) (drop (k + 1) values) ≡ whole
+value-put out values at k whole h inv =
+    let e : at + (k + 1) ≡ suc (at + k) = omega arith in
+    rw (e, add-one) (rw (drop-cons values k 0 h) at inv)

@@ -1,0 +1,42 @@
+-- `record` meets its contract, return by return. Assumes nothing.
+use borrow.Author.Needs.{needs}
+use Rattle.wire.proofs.RecordCalls.{few-numbers, few-bytes, bad-numbers, record-written}
+use Rattle.wire.proofs.record.record.Statement.{statement}
+use Rattle.wire.proofs.record.record.Tie as tie
+
+returns : tie.Need-returns
+returns c = search (needs, few-numbers)
+
+returns-2 : tie.Need-returns-2
+returns-2 c = search (needs, few-bytes)
+
+rule-of-requires : tie.Need-rule-of-requires
+rule-of-requires c κs = search needs
+
+is-sound-requires : tie.Need-is-sound-requires
+is-sound-requires c κs = search needs
+
+returns-3 : tie.Need-returns-3
+returns-3 c = search (needs, bad-numbers)
+
+put-rule-requires : tie.Need-put-rule-requires
+put-rule-requires c κs = search needs
+
+same-length : tie.Need-same-length
+same-length c = search needs
+
+returns-4 : tie.Need-returns-4
+returns-4 c = search (needs, record-written)
+
+pub record-spec : {M : Type 1} → statement M
+record-spec =
+    tie.close
+    (tie.spec
+    returns
+    returns-2
+    rule-of-requires
+    is-sound-requires
+    returns-3
+    put-rule-requires
+    same-length
+    returns-4)
