@@ -237,7 +237,7 @@ pub fn run() {
         let answers: Vec<u32> = versions.iter().zip(&mut sheets).map(|((_, f), s)| f(order, s, &mut work)).collect();
         assert!(answers[0] == answers[1] && sheets[0] == sheets[1], "{what}: {answers:?}");
         let boxes = (answers[0] as usize).saturating_sub(order.len()) / BOX;
-        compare(&format!("{what}, {boxes} boxes"), &versions, |f| {
+        compare(&format!("{what}, {boxes} boxes"), &versions, 1, |f| {
             std::hint::black_box(f(std::hint::black_box(order), &mut sheets[0], &mut work));
         });
     }
