@@ -45,15 +45,15 @@ moved-good lim o h =
     record {
       gate = a .gate;
       own = a .own;
+      counted = length-map (slotsOf o) boxesOf ∙ slots-length (startOf o) [] (o .gate);
       groups = record {
-        count = length-map (slotsOf o) boxesOf ∙ slots-length (startOf o) [] (o .gate);
         boxes = each-imp (Each Proper) ProperGroup (moved o .groups) (λ g p. every-each (proper highest) g p) (moved-proper o (f .0));
         within = omega arith;
       };
     }
 
 -- how long the bytes of groups and of a pair are
-groups-length : (gs : List (List Region)) → Each ProperGroup gs → length (groupsBytes gs) ≡ countSize * length gs + boxSize * length (together gs)
+pub groups-length : (gs : List (List Region)) → Each ProperGroup gs → length (groupsBytes gs) ≡ countSize * length gs + boxSize * length (together gs)
 unfolding groupsBytes groupBytes together Each
 groups-length [] h = refl
 groups-length (g ∷ gs) h =
@@ -76,7 +76,7 @@ module _ (lim : Limits) (p : Pair) (u : lim .gate < 65536) (v : lim .own < 65536
       let b = faultless (lim .own) (p .order .own) (good .own) in
       let d = denies-most (p .order .gate) in
       let t = good .groups .within in
-      let n = good .groups .count in
+      let n = good .counted in
       rw pair-length (omega arith)
 
 -- The lists of an accepted move have no fault as lists of the cell's total.

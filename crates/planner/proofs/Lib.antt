@@ -1,2 +1,4 @@
 pub mod Good
 pub mod Demands
+pub mod Calls
+pub mod Planning

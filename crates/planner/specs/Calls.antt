@@ -36,27 +36,32 @@ unfoldable pub lengthOf : {A : Type 0} → (A → List ℕ) → Outcome A → Ou
 lengthOf bytes (accepted a) = accepted (length (bytes a))
 lengthOf bytes (refused n) = refused n
 
--- Move: 1, what reading the order sheet gives, 6, 7; accepted, the moved pair.
+-- A call that writes: number 1, which is first, unless all that is lent is long enough; then what it comes to. It determines
+-- the answer, the buffer that is written and the work buffer.
+pub record Call {A : Type 0} (bytes : A → List ℕ) (size : ℕ) (lent : Bool) (x : Outcome A) (out w : List ℕ) (r : Answer) (out′ w′ : List ℕ) : Type 0 where
+  pub answer : said r ≡ lengthOf bytes (test lent 1 x)
+  pub result : out′ ≡ written bytes size out (test lent 1 x)
+  pub work : w′ ≡ workAfter limits lent w
+
+-- Move: what reading the order sheet gives, then 6 and 7; accepted, the moved pair.
 unfoldable pub planOf : Limits → Order → Outcome Pair
 planOf lim o = unless (room lim o (slotsOf o)) (moved o)
 
-abbrev pub moveLent : Limits → List ℕ → List ℕ → Bool
-moveLent lim out work = roomFor (pairSize lim) out && roomFor (workSize lim) work
+unfoldable pub moveOf : Limits → List ℕ → Outcome Pair
+moveOf lim s = andThen (orderIn lim s) (planOf lim)
 
-unfoldable pub moveOf : Limits → List ℕ → Bool → Outcome Pair
-moveOf lim s lent = test lent 1 (andThen (orderIn lim s) (planOf lim))
+abbrev pub bothLent : ℕ → List ℕ → List ℕ → Bool
+bothLent size out w = roomFor size out && roomFor (workSize limits) w
 
-pub record Moves (s out w : List ℕ) (r : Answer) (out′ w′ : List ℕ) : Type 0 where
-  pub answer : said r ≡ lengthOf pairBytes (moveOf limits s (moveLent limits out w))
-  pub sheet : out′ ≡ written pairBytes (pairSize limits) out (moveOf limits s (moveLent limits out w))
-  pub work : w′ ≡ workAfter limits (moveLent limits out w) w
+abbrev pub Moves : List ℕ → List ℕ → List ℕ → Answer → List ℕ → List ℕ → Type 0
+Moves s out w r out′ w′ = Call pairBytes (pairSize limits) (bothLent (pairSize limits) out w) (moveOf limits s) out w r out′ w′
 
--- Check: 1, what reading the pair sheet gives, 6, 8.
+-- Check: what reading the pair sheet gives, then 6 and 8.
 unfoldable pub checkedOf : Limits → Pair → Outcome Pair
 checkedOf lim p = unless (checkRefusal lim p) p
 
-unfoldable pub checkOf : Limits → List ℕ → Bool → Outcome Pair
-checkOf lim s lent = test lent 1 (andThen (pairIn lim s) (checkedOf lim))
+unfoldable pub checkOf : Limits → List ℕ → Outcome Pair
+checkOf lim s = andThen (pairIn lim s) (checkedOf lim)
 
 -- Nothing is written, so a length of 0 says yes.
 unfoldable pub yes : Outcome Pair → Outcome ℕ
@@ -64,7 +69,7 @@ yes (accepted p) = accepted 0
 yes (refused n) = refused n
 
 pub record Checks (s w : List ℕ) (r : Answer) (w′ : List ℕ) : Type 0 where
-  pub answer : said r ≡ yes (checkOf limits s (roomFor (workSize limits) w))
+  pub answer : said r ≡ yes (test (roomFor (workSize limits) w) 1 (checkOf limits s))
   pub work : w′ ≡ workAfter limits (roomFor (workSize limits) w) w
 
 -- Cell list and gate list: check, then the list that is wanted.
@@ -74,16 +79,11 @@ cellBytes p = sectionBytes (cellList p)
 unfoldable pub gateBytes : Pair → List ℕ
 gateBytes p = sectionBytes (gateList p)
 
-abbrev pub cellSize : Limits → ℕ
-cellSize lim = sectionSize (lim .total)
+abbrev pub cellSize : ℕ
+cellSize = sectionSize (limits .total)
 
-abbrev pub gateOneSize : ℕ
-gateOneSize = sectionSize 1
+abbrev pub gateSize : ℕ
+gateSize = sectionSize 1
 
-abbrev pub listLent : Limits → ℕ → List ℕ → List ℕ → Bool
-listLent lim size out work = roomFor size out && roomFor (workSize lim) work
-
-pub record Lists (bytes : Pair → List ℕ) (size : ℕ) (s out w : List ℕ) (r : Answer) (out′ w′ : List ℕ) : Type 0 where
-  pub answer : said r ≡ lengthOf bytes (checkOf limits s (listLent limits size out w))
-  pub list : out′ ≡ written bytes size out (checkOf limits s (listLent limits size out w))
-  pub work : w′ ≡ workAfter limits (listLent limits size out w) w
+abbrev pub Lists : (Pair → List ℕ) → ℕ → List ℕ → List ℕ → List ℕ → Answer → List ℕ → List ℕ → Type 0
+Lists bytes size s out w r out′ w′ = Call bytes size (bothLent size out w) (checkOf limits s) out w r out′ w′

@@ -4,19 +4,20 @@ use mathlib.Core.Path.{_≡_}
 use mathlib.Core.List.{List, [], _∷_}
 use mathlib.Core.Bool.{Bool, true}
 use Prim.Native.Nat.{ℕ}
-use lib.ListN.{length}
+use lib.ListN.{length, take}
 use Rattle.policy.specs.Fields.{Limits}
 use Rattle.policy.specs.Ranges.{Packet}
 use Rattle.policy.specs.Rules.{Rule, drops, forwards}
 use Rattle.policy.specs.Cut.{anyHas}
 use Rattle.policy.specs.Refusals.{Outcome, accepted, refused}
 use Rattle.policy.specs.Move.{together, Order, Pair, moved, gateList, cellList}
-use Rattle.policy.specs.Edit.{Edit, newOrder, allDone}
+use Rattle.policy.specs.Edit.{Edit, newOrder, edited, allDone}
+use Rattle.policy.specs.Demands.{inGateAt, OthersKept}
 use Rattle.sheet.specs.Sections.{sectionBytes}
 use Rattle.sheet.specs.Orders.{orderIn, orderBytes, listIn}
 use Rattle.sheet.specs.Pairs.{pairIn, pairBytes, pairSize}
 use Rattle.planner.specs.Calls.{moveOf, checkOf, written, lengthOf}
-use Rattle.planner.specs.Edits.{Asked, editOf, editedOf}
+use Rattle.planner.specs.Edits.{Asked, kindOf, editOf, editedOf}
 
 -- Demand 2 of an order sheet's bytes that a move accepts with the pair p. Its lists o are those that the bytes say, and say
 -- the same bytes; the sheet written is read as p, and passes check; its two lists, read from their bytes, forward a packet
@@ -26,7 +27,7 @@ pub record DemandTwo (lim : Limits) (s : List ℕ) (o : Order) (p : Pair) : Type
   pub bytes : orderBytes o ≡ s
   pub pair : p ≡ moved o
   pub sheet : pairIn lim (pairBytes p) ≡ accepted p
-  pub checks : checkOf lim (pairBytes p) true ≡ accepted p
+  pub checks : checkOf lim (pairBytes p) ≡ accepted p
   pub gate : listIn (lim .total) (sectionBytes (gateList p)) ≡ accepted (gateList p)
   pub cell : listIn (lim .total) (sectionBytes (cellList p)) ≡ accepted (cellList p)
   pub forwarded : (q : Packet) → forwards q (gateList p) (cellList p) ≡ forwards q (o .gate) (o .own)
@@ -47,7 +48,7 @@ after lim h (accepted p) = held lim (h .buffer) p
 after lim h (refused n) = h
 
 abbrev pub edits : Limits → Asked → Held → Outcome Pair
-edits lim a h = editedOf lim (h .buffer) (h .used) a true
+edits lim a h = editedOf lim (take (h .used) (h .buffer)) a
 
 -- A run of edit calls, and the edits among them that were accepted.
 unfoldable pub runCalls : Limits → List Asked → Held → Held
@@ -67,10 +68,16 @@ taken lim (a ∷ l) h = ifTaken (edits lim a h) (editOf a) (taken lim l (after l
 -- accepted; and the length is its answer.
 pub record DemandThree (lim : Limits) (out : List ℕ) (o : Order) (l : List Asked) (now : Order) : Type 0 where
   pub lists : now ≡ allDone (taken lim l (held lim out (moved o))) o
-  pub accepts : moveOf lim (orderBytes now) true ≡ accepted (moved now)
+  pub accepts : moveOf lim (orderBytes now) ≡ accepted (moved now)
   pub sheet : runCalls lim l (held lim out (moved o)) ≡ held lim out (moved now)
 
 -- Demand 3, one edit that names A or B, a place that exists and a whole record: it is refused exactly when a fresh move of the
 -- edited lists is, with the same number, and otherwise gives the same pair.
 pub record EditAsFresh (lim : Limits) (out : List ℕ) (o : Order) (a : Asked) : Type 0 where
-  pub same : edits lim a (held lim out (moved o)) ≡ moveOf lim (orderBytes (newOrder (editOf a) o)) true
+  pub same : edits lim a (held lim out (moved o)) ≡ moveOf lim (orderBytes (newOrder (editOf a) o))
+
+-- Demand 3, other rules: of any pair sheet that reads, stale ones too, an accepted edit of A that takes out and puts in no allow
+-- gives the edited pair, and every other deny rule has the group that it had.
+pub record OthersAsBefore (a : Asked) (p q : Pair) : Type 0 where
+  pub pair : q ≡ edited (inGateAt (a .place) (kindOf (a .change) (a .bytes))) p
+  pub others : OthersKept (a .place) (kindOf (a .change) (a .bytes)) p

@@ -1,19 +1,18 @@
 -- Edit: a pair sheet in its buffer changed at one place (01, Calls and Numbers given back). Assumes nothing.
-use mathlib.Core.Path.{_≡_}
 use mathlib.Core.List.{List}
-use mathlib.Core.Bool.{Bool, true, false, cond, _&&_}
+use mathlib.Core.Bool.{Bool, true, _&&_}
 use Prim.Native.Nat.{ℕ}
 use lib.Dec.{leb, eqb}
 use lib.ListN.{length, take}
 use Rattle.policy.specs.Fields.{recordSize, Limits, limits}
-use Rattle.policy.specs.Refusals.{Outcome, test, andThen, unless, said}
+use Rattle.policy.specs.Refusals.{Outcome, test, andThen, unless}
 use Rattle.policy.specs.Move.{Pair}
 use Rattle.policy.specs.Edit.{Kind, insert, delete, replace, Edit, placeFound, edited, changeRefusal}
 use Rattle.policy.specs.declared.Answer.{Answer}
 use Rattle.wire.specs.Records.{ruleIn}
 use Rattle.groups.specs.Worked.{workSize}
 use Rattle.sheet.specs.Pairs.{pairIn, pairBytes, pairSize}
-use Rattle.planner.specs.Calls.{roomFor, workAfter, written, lengthOf}
+use Rattle.planner.specs.Calls.{roomFor, Call}
 use Rattle.planner.specs.declared.Change.{Change}
 use Rattle.planner.specs.declared.Change.the-variants.{Insert, Delete, Replace}
 
@@ -45,15 +44,13 @@ changeOf lim a p =
     test (leb (a .list) 1 && placeFound (editOf a) (p .order)) 9
     (test (wholeRecord (a .change) (a .bytes)) 3 (unless (changeRefusal lim (editOf a) p) (edited (editOf a) p)))
 
+-- What reading the bytes of a pair sheet gives, then the change.
+unfoldable pub editedOf : Limits → List ℕ → Asked → Outcome Pair
+editedOf lim s a = andThen (pairIn lim s) (changeOf lim a)
+
 -- Number 1: the sheet's buffer and the work buffer are long enough, and the stated length is not above the former.
-abbrev pub editLent : Limits → List ℕ → ℕ → List ℕ → Bool
-editLent lim sheet used work = roomFor (pairSize lim) sheet && (leb used (length sheet) && roomFor (workSize lim) work)
+abbrev pub editLent : List ℕ → ℕ → List ℕ → Bool
+editLent buffer used w = roomFor (pairSize limits) buffer && (leb used (length buffer) && roomFor (workSize limits) w)
 
--- 1, what reading the pair sheet of the stated length gives, then the change.
-unfoldable pub editedOf : Limits → List ℕ → ℕ → Asked → Bool → Outcome Pair
-editedOf lim sheet used a lent = test lent 1 (andThen (pairIn lim (take used sheet)) (changeOf lim a))
-
-pub record Edits (buffer : List ℕ) (used : ℕ) (a : Asked) (w : List ℕ) (r : Answer) (buffer′ w′ : List ℕ) : Type 0 where
-  pub answer : said r ≡ lengthOf pairBytes (editedOf limits buffer used a (editLent limits buffer used w))
-  pub sheet : buffer′ ≡ written pairBytes (pairSize limits) buffer (editedOf limits buffer used a (editLent limits buffer used w))
-  pub work : w′ ≡ workAfter limits (editLent limits buffer used w) w
+abbrev pub Edits : List ℕ → ℕ → Asked → List ℕ → Answer → List ℕ → List ℕ → Type 0
+Edits buffer used a w r buffer′ w′ = Call pairBytes (pairSize limits) (editLent buffer used w) (editedOf limits (take used buffer) a) buffer w r buffer′ w′

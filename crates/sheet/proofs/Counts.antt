@@ -4,7 +4,7 @@ use mathlib.Core.List.{List, _++_, append-assoc}
 use Prim.Native.Nat.{ℕ, _+_, _*_, _<_, _≤_}
 use native.Mathlib.Omega.{arith}
 use lib.ListN.{length, take, drop, length-append, length-drop}
-use lib.Seq.{take-at, drop-at, take-add, drop-drop, length-take-le}
+use lib.Seq.{take-at, drop-at, take-add, length-take-le}
 use Rattle.lists.specs.Lists.{Each}
 use Rattle.policy.specs.Fields.{countSize}
 use Rattle.wire.specs.Numbers.{numberBytes, numberIn, Byte}

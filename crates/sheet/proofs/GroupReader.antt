@@ -1,9 +1,9 @@
 -- The readers of one group and of groups one after another: what the code answers is what the definition gives.
 -- Assumes nothing.
 use mathlib.Core.Path.{_≡_, refl, ap, sym, _∙_}
-use mathlib.Core.List.{List, [], _∷_, _++_, append-nil}
+use mathlib.Core.List.{List, [], _∷_, append-nil}
 use mathlib.Core.Bool.{Bool, true, false, not}
-use Prim.Native.Nat.{ℕ, zero, suc, _+_, _*_, _-_, _<_, _≤_}
+use Prim.Native.Nat.{ℕ, suc, _+_, _*_, _-_, _<_, _≤_}
 use native.Mathlib.Omega.{arith}
 use lib.Dec.{leb}
 use lib.ListN.{length, take, drop, length-append, length-drop}
@@ -23,10 +23,9 @@ use Rattle.sheet.specs.Pairs.{groupSize, groupBoxes, behind, groupsIn}
 use Rattle.sheet.specs.Readers.{withTotal, groupsFrom, groupsHeard, GroupsPlace, GroupsPlaced, GroupsRead}
 use Rattle.sheet.specs.declared.Groups.{Groups}
 use Rattle.sheet.specs.declared.Groups.the-variants.{Boxes, Fault}
-use Rattle.sheet.proofs.Pairs.{ProperGroup, GroupGood, group-good}
-use Rattle.sheet.proofs.OrderReader.{part-from}
+use Rattle.sheet.proofs.Parts.{part-from}
 
-pub one-group : (s : List ℕ) → length (together (groupsFrom 1 s)) ≡ countIn s
+one-group : (s : List ℕ) → length (together (groupsFrom 1 s)) ≡ countIn s
 unfolding together groupsFrom
 one-group s = rw append-nil (boxesIn-length (countIn s) (drop countSize s))
 

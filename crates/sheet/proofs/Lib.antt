@@ -1,3 +1,4 @@
+pub mod Parts
 pub mod Outcomes
 pub mod Counts
 pub mod Sections
@@ -8,3 +9,7 @@ pub mod SectionReader
 pub mod OrderReader
 pub mod GroupReader
 pub mod PairReader
+pub mod Accepted
+pub mod Splits
+pub mod Joins
+pub mod Undo

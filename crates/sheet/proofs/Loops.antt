@@ -4,13 +4,11 @@ use mathlib.Core.List.{List, [], _∷_}
 use mathlib.Core.Bool.{Bool, true, false, not, cond, _&&_}
 use Prim.Native.Nat.{ℕ, suc, _+_, _-_, _<_, _≤_}
 use native.Mathlib.Omega.{arith}
-use lib.Dec.{eqb}
 use lib.ListN.{drop}
 use lib.Seq.{drop-drop}
 use borrow.Author.Tests.{not-true, not-false, eq-eqb, ne-eqb}
 use Rattle.lists.specs.Lists.{every}
 use Rattle.policy.specs.Fields.{boxSize, recordSize}
-use Rattle.policy.specs.Ranges.{Region}
 use Rattle.policy.specs.Rules.{Rule, isAllow, denies}
 use Rattle.wire.specs.Records.{boxIn, boxesIn, ruleIn, rulesIn}
 

@@ -2,11 +2,10 @@
 -- Assumes nothing.
 use mathlib.Core.Path.{_≡_, refl, ap, sym, _∙_}
 use mathlib.Core.List.{List, [], _∷_, _++_, append-assoc, append-nil}
-use mathlib.Core.Bool.{true}
 use Prim.Native.Nat.{ℕ, zero, suc, _<_}
 use native.Mathlib.Omega.{arith}
 use lib.Dec.{eqb}
-use lib.ListN.{length, drop}
+use lib.ListN.{length}
 use borrow.Author.Tests.{eqb-true}
 use Rattle.lists.specs.Lists.{Each}
 use Rattle.policy.specs.Fields.{Limits}
@@ -32,7 +31,7 @@ faultless-fits most l h e =
     let g = faultless most l e in
     record { rules = each-every sound RuleFits sound-fits l (g .sounds); count = omega arith }
 
-pub nothing-left : {A : Type 0} (l : List A) → length l ≡ 0 → l ≡ []
+nothing-left : {A : Type 0} (l : List A) → length l ≡ 0 → l ≡ []
 nothing-left [] e = refl
 nothing-left (x ∷ l) e = absurd (omega arith)
 
@@ -67,12 +66,12 @@ unfolding orderIn
 order-ended lim s = behind-lists (λ (r : Reading Order). ended r (r .value)) lim s
 
 -- A and B that were accepted.
-pub record ListsGood (lim : Limits) (s : List ℕ) (r : Reading Order) : Type 0 where
+record ListsGood (lim : Limits) (s : List ℕ) (r : Reading Order) : Type 0 where
   pub middle : List ℕ
   pub gate : section (lim .gate) s ≡ accepted (reading (r .value .gate) middle)
   pub own : section (lim .own) middle ≡ accepted (reading (r .value .own) (r .rest))
 
-pub lists-good : (lim : Limits) (s : List ℕ) (r : Reading Order) → listsIn lim s ≡ accepted r → ListsGood lim s r
+lists-good : (lim : Limits) (s : List ℕ) (r : Reading Order) → listsIn lim s ≡ accepted r → ListsGood lim s r
 unfolding listsIn
 lists-good lim s r e =
     let a = through (section (lim .gate) s) _ r e in
@@ -129,8 +128,14 @@ order-back lim o g w =
     let e : listsIn lim (orderBytes o) ≡ unless n (reading o []) = rw append-nil at (lists-back lim o [] g w) in
     order-ended lim (orderBytes o) ∙ rw e (unless-then n (reading o []) _ o refl)
 
+pub order-again :
+    (lim : Limits) (o : Order) → lim .gate < 65536 → lim .own < 65536 → listRefusal (lim .gate) (o .gate) ≡ 0 → listRefusal (lim .own) (o .own) ≡ 0
+    → orderIn lim (orderBytes o) ≡ accepted o
+order-again lim o g w e f =
+    order-back lim o (faultless-fits (lim .gate) (o .gate) g e) (faultless-fits (lim .own) (o .own) w f) ∙ rw (e, f) refl
+
 -- What was accepted: A and B of an order sheet, and nothing behind them.
-pub order-lists : (lim : Limits) (s : List ℕ) (o : Order) → orderIn lim s ≡ accepted o → listsIn lim s ≡ accepted (reading o [])
+order-lists : (lim : Limits) (s : List ℕ) (o : Order) → orderIn lim s ≡ accepted o → listsIn lim s ≡ accepted (reading o [])
 order-lists lim s o e =
     let a = through (listsIn lim s) _ o (sym (order-ended lim s) ∙ e) in
     let b = ended-accepted (a .value) (a .value .value) o (a .then) in
@@ -151,7 +156,10 @@ list-back most l h =
     let e : section most (sectionBytes l) ≡ unless (listRefusal most l) (reading l []) = rw append-nil at (section-back most l [] (h .rules) (h .count)) in
     rw e (unless-then (listRefusal most l) (reading l []) _ l refl)
 
-pub list-section : (most : ℕ) (s : List ℕ) (l : List Rule) → listIn most s ≡ accepted l → section most s ≡ accepted (reading l [])
+pub list-again : (most : ℕ) (l : List Rule) → most < 65536 → listRefusal most l ≡ 0 → listIn most (sectionBytes l) ≡ accepted l
+list-again most l h e = list-back most l (faultless-fits most l h e) ∙ rw e refl
+
+list-section : (most : ℕ) (s : List ℕ) (l : List Rule) → listIn most s ≡ accepted l → section most s ≡ accepted (reading l [])
 unfolding listIn
 list-section most s l e =
     let a = through (section most s) _ l e in

@@ -11,7 +11,7 @@ use Rattle.lists.specs.Lists.{Each, every}
 use Rattle.lists.proofs.Tests.{and-true}
 use Rattle.policy.specs.Rules.{Rule, sound, complete}
 use Rattle.policy.specs.Refusals.{Outcome, accepted, refused, test, andThen, given, orElse, unless, faults}
-use Rattle.policy.specs.Move.{badCount, listRefusal}
+use Rattle.policy.specs.Move.{listRefusal}
 
 module _ {A : Type 0} where
   pub test-accepted : (b : Bool) (n : ℕ) (x : Outcome A) (v : A) → test b n x ≡ accepted v → (b ≡ true) × (x ≡ accepted v)
@@ -30,7 +30,7 @@ module _ {A : Type 0} where
       (g a (k .0), each-every f P g l (k .1))
 
   -- tests in their order, and their numbers in theirs
-  pub in-order :
+  in-order :
       (a b c d : Bool) (x : A) → test a 2 (test b 2 (test c 4 (test d 5 (accepted x))))
       ≡ unless (orElse (given (not a || not b) 2) (orElse (given (not c) 4) (given (not d) 5))) x
   in-order true true true true x = refl

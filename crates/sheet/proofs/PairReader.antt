@@ -2,40 +2,29 @@
 -- Assumes nothing.
 use mathlib.Core.Path.{_≡_, refl, ap, sym, _∙_}
 use mathlib.Core.List.{List}
-use Prim.Native.Nat.{ℕ, _+_, _*_, _-_, _<_, _≤_}
+use Prim.Native.Nat.{ℕ, _+_, _-_, _<_, _≤_}
 use native.Mathlib.Omega.{arith}
 use lib.ListN.{length, take, drop, length-drop}
 use lib.Seq.{drop-drop}
 use borrow.Author.Tests.{le-leb, lt-leb, eq-eqb, ne-eqb}
 use Rattle.policy.specs.Fields.{limits, countSize}
 use Rattle.policy.specs.Rules.{Rule, denies}
-use Rattle.policy.specs.Refusals.{accepted, refused, andThen, numberOf}
-use Rattle.policy.specs.Move.{Pair}
+use Rattle.policy.specs.Refusals.{refused, andThen, numberOf}
 use Rattle.policy.specs.declared.Refusal.{Refusal}
 use Rattle.policy.specs.declared.Refusal.the-variants.{LengthWrong, GroupsDiffer}
 use Rattle.wire.proofs.Records.{rulesIn-length}
 use Rattle.sheet.specs.Sections.{countIn, sectionSize}
 use Rattle.sheet.specs.Orders.{ended, order}
 use Rattle.sheet.specs.Pairs.{groupsIn, groupSection, pairIn}
-use Rattle.sheet.specs.Readers.{
-  rulesOf,
-  ListsPlace,
-  ListsRead,
-  GroupsRead,
-  pairOf,
-  pairHeard,
-  PairPlace,
-  PairPlaced,
-  PairRead,
-}
+use Rattle.sheet.specs.Readers.{rulesOf, ListsPlace, ListsRead, GroupsRead, pairHeard, PairPlaced, PairRead}
 use Rattle.sheet.specs.declared.Lists.{Lists}
 use Rattle.sheet.specs.declared.Lists.the-variants as L
 use Rattle.sheet.specs.declared.Groups.{Groups}
 use Rattle.sheet.specs.declared.Groups.the-variants as G
-use Rattle.sheet.specs.declared.PairParts.{PairParts}
 use Rattle.sheet.specs.declared.PairParts.the-variants as P
+use Rattle.sheet.proofs.Parts.{part-from}
 use Rattle.sheet.proofs.Pairs.{pair-lists}
-use Rattle.sheet.proofs.OrderReader.{part-from, lists-fault, lists-parts, lists-place}
+use Rattle.sheet.proofs.OrderReader.{lists-fault, lists-parts, lists-place}
 use Rattle.sheet.proofs.GroupReader.{groups-fault, groups-boxes, groups-place}
 
 pair-faulty : {s : List ℕ} (f : Refusal) → pairIn limits s ≡ refused (numberOf f) → PairRead s (P.Fault f)

@@ -2,56 +2,36 @@
 use mathlib.Core.Path.{_≡_, refl, ap, sym, subst, _∙_}
 use mathlib.Core.List.{List, [], _∷_, _++_, append-assoc, append-nil}
 use mathlib.Core.Bool.{Bool, true, false, cond}
-use Prim.Native.Nat.{ℕ, zero, suc, _+_, _*_, _<_, _≤_}
+use Prim.Native.Nat.{ℕ, zero, suc, _+_, _<_, _≤_}
 use native.Mathlib.Omega.{arith}
 use lib.Dec.{leb, eqb}
-use lib.ListN.{length, take, drop, length-append, length-drop, take-append-drop}
-use lib.Seq.{take-at, drop-at, take-add, drop-drop, length-take-le}
+use lib.ListN.{length, take, drop, length-append, take-append-drop}
+use lib.Seq.{drop-at}
 use borrow.Author.Tests.{le-leb, leb-true, eq-eqb, eqb-true}
 use Rattle.lists.specs.Lists.{Each, every}
 use Rattle.policy.specs.Fields.{Limits, highest, widths, boxSize, countSize}
 use Rattle.policy.specs.Ranges.{Region, proper}
 use Rattle.policy.specs.Rules.{Rule, isAllow, denies}
-use Rattle.policy.specs.Refusals.{Outcome, accepted, refused, andThen, orElse, unless}
+use Rattle.policy.specs.Refusals.{accepted, andThen}
 use Rattle.policy.specs.Move.{Order, Pair, together, listRefusal}
-use Rattle.wire.specs.Numbers.{numberBytes, numberIn, Byte}
-use Rattle.wire.specs.Records.{Fits, boxesBytes, boxesIn}
-use Rattle.wire.proofs.Numbers.{numberBytes-length, number-back, bytes-back, bytes-take, bytes-drop}
+use Rattle.wire.specs.Numbers.{numberBytes, Byte}
+use Rattle.wire.specs.Records.{Fits, boxesBytes}
+use Rattle.wire.proofs.Numbers.{numberBytes-length, bytes-drop}
 use Rattle.wire.proofs.Records.{proper-fits, boxesIn-length, boxesBytes-length, boxes-back, boxes-written-back}
 use Rattle.sheet.specs.Sections.{Reading, reading, countIn}
 use Rattle.sheet.specs.Orders.{order, orderBytes}
-use Rattle.sheet.specs.Pairs.{
-  groupSize,
-  groupBoxes,
-  behind,
-  groupsIn,
-  groupSection,
-  pairIn,
-  groupBytes,
-  groupsBytes,
-  pairBytes,
-}
+use Rattle.sheet.specs.Pairs.{groupSize, groupBoxes, behind, groupsIn, groupSection, pairIn, groupBytes, groupsBytes, pairBytes}
 use Rattle.sheet.specs.Readers.{listsIn}
 use Rattle.sheet.proofs.Counts.{count-back, count-behind, count-written-back, counted, counted-written-back}
 use Rattle.sheet.proofs.Outcomes.{test-accepted, through, each-every, faultless}
-use Rattle.sheet.proofs.Orders.{
-  ListFits,
-  faultless-fits,
-  nothing-left,
-  ended-accepted,
-  behind-lists,
-  lists-good,
-  lists-faultless,
-  lists-written-back,
-  lists-back,
-}
+use Rattle.sheet.proofs.Orders.{faultless-fits, ended-accepted, behind-lists, lists-faultless, lists-written-back, lists-back}
 
 -- A group of proper boxes.
 abbrev pub ProperGroup : List Region → Type 0
 ProperGroup g = every (proper highest) g ≡ true
 
 -- One group that was accepted, and those behind it.
-pub record GroupGood (lim : Limits) (n total : ℕ) (s : List ℕ) (r : Reading (List (List Region))) : Type 0 where
+record GroupGood (lim : Limits) (n total : ℕ) (s : List ℕ) (r : Reading (List (List Region))) : Type 0 where
   pub within : total + countIn s ≤ lim .total
   pub there : groupSize (countIn s) ≤ length s
   pub boxes : ProperGroup (groupBoxes s)
@@ -59,7 +39,7 @@ pub record GroupGood (lim : Limits) (n total : ℕ) (s : List ℕ) (r : Reading 
   pub reads : groupsIn lim n (total + countIn s) (drop (groupSize (countIn s)) s) ≡ accepted later
   pub whole : behind (groupBoxes s) later ≡ r
 
-pub group-good :
+group-good :
     (lim : Limits) (n total : ℕ) (s : List ℕ) (r : Reading (List (List Region)))
     → groupsIn lim (suc n) total s ≡ accepted r → GroupGood lim n total s r
 unfolding groupsIn
@@ -89,27 +69,25 @@ groups-count lim (suc n) total s r e =
     let g = group-good lim n total s r e in
     (λ i. length (sym (g .whole) i .value)) ∙ ap suc (groups-count lim n (total + countIn s) (drop (groupSize (countIn s)) s) (g .later) (g .reads))
 
--- Groups that were accepted: so many, of proper boxes, and within the total.
-pub record GroupsGood (lim : Limits) (n total : ℕ) (gs : List (List Region)) : Type 0 where
-  pub count : length gs ≡ n
+-- Groups of proper boxes, which come to no more than the total together with what was there before them.
+pub record GroupsGood (lim : Limits) (total : ℕ) (gs : List (List Region)) : Type 0 where
   pub boxes : Each ProperGroup gs
   pub within : total + length (together gs) ≤ lim .total
 
-pub groups-good :
+groups-good :
     (lim : Limits) (n total : ℕ) (s : List ℕ) (r : Reading (List (List Region))) → total ≤ lim .total
-    → groupsIn lim n total s ≡ accepted r → GroupsGood lim n total (r .value)
+    → groupsIn lim n total s ≡ accepted r → GroupsGood lim total (r .value)
 unfolding groupsIn together Each
 groups-good lim zero total s r h e =
     let p : reading [] s ≡ r = cc in
-    subst (λ (x : Reading (List (List Region))). GroupsGood lim zero total (x .value)) p (record { count = refl; boxes = tt; within = omega arith })
+    subst (λ (x : Reading (List (List Region))). GroupsGood lim total (x .value)) p (record { boxes = tt; within = omega arith })
 groups-good lim (suc n) total s r h e =
     let g = group-good lim n total s r e in
     let k = groups-good lim n (total + countIn s) (drop (groupSize (countIn s)) s) (g .later) (g .within) (g .reads) in
     let w = k .within in
     let l : length (groupBoxes s ++ together (g .later .value)) ≡ countIn s + length (together (g .later .value)) =
     length-append (groupBoxes s) (together (g .later .value)) ∙ ap (λ (x : ℕ). x + length (together (g .later .value))) (boxesIn-length (countIn s) (drop countSize s)) in
-    subst (λ (x : Reading (List (List Region))). GroupsGood lim (suc n) total (x .value)) (g .whole)
-    (record { count = ap suc (k .count); boxes = (g .boxes, k .boxes); within = omega arith })
+    subst (λ (x : Reading (List (List Region))). GroupsGood lim total (x .value)) (g .whole) (record { boxes = (g .boxes, k .boxes); within = omega arith })
 
 -- What reads well is what would be written.
 group-written-back : (s : List ℕ) → Each Byte s → groupSize (countIn s) ≤ length s → groupBytes (groupBoxes s) ≡ take (groupSize (countIn s)) s
@@ -117,7 +95,7 @@ unfolding groupBytes
 group-written-back s b h =
     rw (boxesIn-length (countIn s) (drop countSize s)) (counted-written-back boxSize s _ b h (λ x l. boxes-written-back (countIn s) (drop countSize s) l x))
 
-pub groups-written-back :
+groups-written-back :
     (lim : Limits) (n total : ℕ) (s : List ℕ) (r : Reading (List (List Region))) → Each Byte s
     → groupsIn lim n total s ≡ accepted r → groupsBytes (r .value) ++ r .rest ≡ s
 unfolding groupsIn groupsBytes
@@ -133,7 +111,7 @@ groups-written-back lim (suc n) total s r b e =
     ∙ (rw (l, group-written-back s b (g .there)) (take-append-drop k s)))
 
 -- What is written reads back as itself.
-pub groups-back :
+groups-back :
     (lim : Limits) (gs : List (List Region)) (total : ℕ) (t : List ℕ) → lim .total < 65536 → Each ProperGroup gs
     → total + length (together gs) ≤ lim .total → groupsIn lim (length gs) total (groupsBytes gs ++ t) ≡ accepted (reading gs t)
 unfolding groupsIn groupsBytes groupBytes Each together
@@ -158,7 +136,7 @@ groups-back lim (g ∷ gs) total t m h w =
     )
 
 -- Section C that was accepted.
-pub record SectionCGood (lim : Limits) (a b : List Rule) (s : List ℕ) (p : Pair) : Type 0 where
+record SectionCGood (lim : Limits) (a b : List Rule) (s : List ℕ) (p : Pair) : Type 0 where
   pub there : countSize ≤ length s
   pub count : countIn s ≡ denies a
   pub groups : groupsIn lim (denies a) (length b) (drop countSize s) ≡ accepted (reading (p .groups) [])
@@ -179,7 +157,7 @@ section-c-good lim a b s p e =
       order = λ i. sym (g .0) i .order;
     }
 
-denies-most : (l : List Rule) → denies l ≤ length l
+pub denies-most : (l : List Rule) → denies l ≤ length l
 unfolding denies
 denies-most [] = omega arith
 denies-most (r ∷ l) = go (isAllow r) (denies-most l)
@@ -193,7 +171,8 @@ denies-most (r ∷ l) = go (isAllow r) (denies-most l)
 pub record PairGood (lim : Limits) (p : Pair) : Type 0 where
   pub gate : listRefusal (lim .gate) (p .order .gate) ≡ 0
   pub own : listRefusal (lim .own) (p .order .own) ≡ 0
-  pub groups : GroupsGood lim (denies (p .order .gate)) (length (p .order .own)) (p .groups)
+  pub counted : length (p .groups) ≡ denies (p .order .gate)
+  pub groups : GroupsGood lim (length (p .order .own)) (p .groups)
 
 pub pair-lists :
     (lim : Limits) (s : List ℕ)
@@ -203,12 +182,12 @@ pair-lists lim s = behind-lists (λ (r : Reading Order). groupSection lim (r .va
 
 module _ (lim : Limits) (s : List ℕ) (p : Pair) (e : pairIn lim s ≡ accepted p) where
   -- The order in front of an accepted section C, and the bytes of that.
-  pub record Front : Type 0 where
+  record Front : Type 0 where
     pub third : List ℕ
     pub lists : listsIn lim s ≡ accepted (reading (p .order) third)
     pub groups : SectionCGood lim (p .order .gate) (p .order .own) third p
 
-  pub front : Front
+  front : Front
   front =
       let a = through (listsIn lim s) _ p (sym (pair-lists lim s) ∙ e) in
       let r = a .value in
@@ -228,6 +207,7 @@ module _ (lim : Limits) (s : List ℕ) (p : Pair) (e : pairIn lim s ≡ accepted
       record {
         gate = l .0;
         own = l .1;
+        counted = groups-count lim (denies (p .order .gate)) (length (p .order .own)) (drop countSize (f .third)) (reading (p .groups) []) (f .groups .groups);
         groups = groups-good lim (denies (p .order .gate)) (length (p .order .own)) (drop countSize (f .third)) (reading (p .groups) []) (omega arith) (f .groups .groups);
       }
 
@@ -254,7 +234,7 @@ pair-back lim p u v w g =
     let n : ℕ = length (p .groups) in
     let t : List ℕ = numberBytes countSize n ++ groupsBytes (p .groups) in
     let f = faultless (lim .gate) (o .gate) (g .gate) in
-    let c : n ≡ denies (o .gate) = g .groups .count in
+    let c : n ≡ denies (o .gate) = g .counted in
     let k = denies-most (o .gate) in
     let l : listsIn lim (orderBytes o ++ t) ≡ accepted (reading o t) =
     lists-back lim o t (faultless-fits (lim .gate) (o .gate) u (g .gate)) (faultless-fits (lim .own) (o .own) v (g .own)) ∙ rw (g .gate, g .own) refl in

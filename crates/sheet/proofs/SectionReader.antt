@@ -5,31 +5,20 @@ use mathlib.Core.List.{List}
 use mathlib.Core.Bool.{Bool, true, false, not}
 use Prim.Native.Nat.{ℕ, zero, suc, _+_, _*_, _-_, _<_, _≤_}
 use native.Mathlib.Omega.{arith}
-use lib.Dec.{eqb}
 use lib.ListN.{length, drop, length-drop}
 use lib.Seq.{drop-drop}
 use borrow.Author.Tests.{not-true, not-false, le-leb, lt-leb, eq-eqb, ne-eqb}
 use Rattle.lists.specs.Lists.{every}
 use Rattle.policy.specs.Fields.{countSize, recordSize, highest}
 use Rattle.policy.specs.Ranges.{Region, isFull}
-use Rattle.policy.specs.Rules.{Rule, sound, complete}
-use Rattle.policy.specs.Refusals.{Outcome, accepted, refused, test, andThen, numberOf}
+use Rattle.policy.specs.Rules.{sound, complete}
+use Rattle.policy.specs.Refusals.{accepted, refused, test, numberOf}
 use Rattle.policy.specs.declared.Refusal.{Refusal}
 use Rattle.policy.specs.declared.Refusal.the-variants.{CountOutside, LengthWrong, RuleBad, NotComplete}
 use Rattle.wire.specs.Records.{boxIn, ruleIn, rulesIn}
-use Rattle.sheet.specs.Sections.{Reading, reading, countIn, sectionSize, section}
+use Rattle.sheet.specs.Sections.{reading, countIn, sectionSize, section}
 use Rattle.sheet.specs.Orders.{listIn}
-use Rattle.sheet.specs.Readers.{
-  rulesOf,
-  sectionHeard,
-  SectionPlace,
-  SectionPlaced,
-  SectionRead,
-  listHeard,
-  ListPlace,
-  ListPlaced,
-  ListRead,
-}
+use Rattle.sheet.specs.Readers.{rulesOf, sectionHeard, SectionPlace, SectionPlaced, SectionRead, listHeard, ListPlaced, ListRead}
 use Rattle.sheet.specs.declared.Section.{Section}
 use Rattle.sheet.specs.declared.Section.the-variants.{Rules, Fault}
 

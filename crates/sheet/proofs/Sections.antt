@@ -1,21 +1,19 @@
 -- A section reads back as what was written, and what reads well is what would be written. Assumes nothing.
 use mathlib.Core.Path.{_≡_, refl, ap, sym, _∙_}
-use mathlib.Core.List.{List, _++_, append-assoc}
-use mathlib.Core.Bool.{true}
-use Prim.Native.Nat.{ℕ, _+_, _*_, _<_, _≤_}
+use mathlib.Core.List.{List, _++_}
+use Prim.Native.Nat.{ℕ, _+_, _<_, _≤_}
 use native.Mathlib.Omega.{arith}
 use lib.Dec.{leb}
-use lib.ListN.{length, take, drop, length-append, length-drop, take-append-drop}
-use lib.Seq.{take-at, drop-at, take-add, drop-drop, length-take-le}
+use lib.ListN.{length, take, drop, length-append, take-append-drop}
 use borrow.Author.Tests.{le-leb, leb-true}
 use Rattle.lists.specs.Lists.{Each, every}
 use Rattle.policy.specs.Fields.{countSize, recordSize}
 use Rattle.policy.specs.Rules.{Rule, sound, complete}
 use Rattle.policy.specs.Refusals.{accepted, unless}
 use Rattle.policy.specs.Move.{listRefusal}
-use Rattle.wire.specs.Numbers.{numberBytes, numberIn, Byte}
+use Rattle.wire.specs.Numbers.{numberBytes, Byte}
 use Rattle.wire.specs.Records.{recordsBytes, rulesIn}
-use Rattle.wire.proofs.Numbers.{numberBytes-length, number-back, bytes-back, bytes-take, bytes-drop}
+use Rattle.wire.proofs.Numbers.{numberBytes-length}
 use Rattle.wire.proofs.Records.{RuleFits, rulesIn-length, recordsBytes-length, rules-back, records-written-back}
 use Rattle.sheet.specs.Sections.{Reading, reading, countIn, sectionSize, sectionRules, section, sectionBytes}
 use Rattle.sheet.proofs.Counts.{counted, counted-written-back}

@@ -9,7 +9,7 @@ use Rattle.policy.specs.Fields.{highest, boxSize, countSize, Limits}
 use Rattle.policy.specs.Ranges.{Region, proper}
 use Rattle.policy.specs.Rules.{Rule, denies}
 use Rattle.policy.specs.Refusals.{Outcome, accepted, test, andThen}
-use Rattle.policy.specs.Move.{Order, Pair}
+use Rattle.policy.specs.Move.{Pair}
 use Rattle.wire.specs.Numbers.{numberBytes}
 use Rattle.wire.specs.Records.{boxesBytes, boxesIn}
 use Rattle.sheet.specs.Sections.{Reading, reading, countIn, section}

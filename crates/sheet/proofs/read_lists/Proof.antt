@@ -1,49 +1,37 @@
+-- `read_lists` hands the part behind A on to the section reader. Assumes nothing.
 use borrow.Author.Needs.{needs}
 use native.Mathlib.Omega.{arith}
 use Rattle.sheet.proofs.OrderReader.{middle-inside, own-inside, gate-fault, own-fault, lists-read}
 use Rattle.sheet.proofs.read_lists.Statement.{statement}
 use Rattle.sheet.proofs.read_lists.Tie as tie
-use Rattle.sheet.proofs.read_lists.Reads as reads
-use Rattle.sheet.proofs.read_lists.Lts as lts
-use Rattle.sheet.proofs.read_section.Reads as read-section-reads
 
--- src/lib.rt:185:11
 read-section-requires : tie.Need-read-section-requires
 read-section-requires c κs = search needs
 
--- src/lib.rt:186:24
 enum-known-f : tie.Need-enum-known-f
 enum-known-f c = search needs
 
--- src/lib.rt:188:20
 enum-known-gate : tie.Need-enum-known-gate
 enum-known-gate c = search needs
 
--- src/lib.rt:190:33
 sub-read-section : tie.Need-sub-read-section
 sub-read-section c = search (needs, middle-inside)
 
--- src/lib.rt:190:33
 part-read-section-start : tie.Need-part-read-section-start
 part-read-section-start c = search (needs, middle-inside)
 
--- src/lib.rt:190:33
 part-read-section-end : tie.Need-part-read-section-end
 part-read-section-end c = search needs
 
--- src/lib.rt:190:20
 read-section-requires-2 : tie.Need-read-section-requires-2
 read-section-requires-2 c κs = search needs
 
--- src/lib.rt:191:28
 enum-known-f-2 : tie.Need-enum-known-f-2
 enum-known-f-2 c = search needs
 
--- src/lib.rt:192:37
 enum-known-own : tie.Need-enum-known-own
 enum-known-own c = search needs
 
--- src/lib.rt:196:24
 add-t16 : tie.Need-add-t16
 add-t16 c =
     let a = c .before .before .before .before .before .before .before .before in
@@ -52,15 +40,12 @@ add-t16 c =
     let h = own-inside (a .read-section .ensures) (g .0 .0) (g .0 .1 .0) (g .1) (c .before .before .before .read-section2 .ensures) (o .0 .0) (o .0 .1 .0) (o .1) in
     omega arith
 
--- src/lib.rt:182:1
 returns : tie.Need-returns
 returns c = search (needs, gate-fault)
 
--- src/lib.rt:182:1
 returns-2 : tie.Need-returns-2
 returns-2 c = search (needs, own-fault)
 
--- src/lib.rt:182:1
 returns-3 : tie.Need-returns-3
 returns-3 c = search (needs, lists-read)
 

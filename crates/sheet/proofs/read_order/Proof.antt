@@ -1,32 +1,24 @@
+-- `read_order` is A and B with nothing left behind. Assumes nothing.
 use borrow.Author.Needs.{needs}
 use Rattle.sheet.proofs.OrderReader.{order-fault, order-over, order-read}
 use Rattle.sheet.proofs.read_order.Statement.{statement}
 use Rattle.sheet.proofs.read_order.Tie as tie
-use Rattle.sheet.proofs.read_order.Reads as reads
-use Rattle.sheet.proofs.read_order.Lts as lts
-use Rattle.sheet.proofs.read_lists.Reads as read-lists-reads
 
--- src/lib.rt:205:11
 read-lists-requires : tie.Need-read-lists-requires
 read-lists-requires c κs = search needs
 
--- src/lib.rt:206:22
 enum-known-f : tie.Need-enum-known-f
 enum-known-f c = search needs
 
--- src/lib.rt:208:13
 enum-known-gate : tie.Need-enum-known-gate
 enum-known-gate c = search needs
 
--- src/lib.rt:214:17
 returns : tie.Need-returns
 returns c = search (needs, order-over)
 
--- src/lib.rt:202:1
 returns-2 : tie.Need-returns-2
 returns-2 c = search (needs, order-fault)
 
--- src/lib.rt:202:1
 returns-3 : tie.Need-returns-3
 returns-3 c = search (needs, order-read)
 

@@ -1,0 +1,165 @@
+-- What each arm of a plan gives: the order sheet refused, 6, 7, or the pair sheet of the moved pair. Assumes nothing.
+use mathlib.Core.Path.{_≡_, refl, ap, sym, _∙_}
+use mathlib.Core.List.{List, [], _∷_, _++_, map}
+use mathlib.Core.Bool.{Bool, true, false}
+use Prim.Native.Nat.{ℕ, suc, _+_, _*_, _-_, _<_, _≤_}
+use native.Mathlib.Omega.{arith}
+use lib.Dec.{ltb}
+use lib.ListN.{length, take, drop, length-append, length-drop, take-append-drop}
+use lib.Seq.{sets, sets-eq, take-at, drop-at, drop-drop}
+use borrow.Author.Tests.{lt-ltb, le-ltb}
+use Rattle.lists.specs.Lists.{Each, every}
+use Rattle.lists.proofs.Parts.{tail-whole}
+use Rattle.policy.specs.Fields.{boxSize, countSize, recordSize, highest, widths, limits}
+use Rattle.policy.specs.Ranges.{Region, proper}
+use Rattle.policy.specs.Rules.{Rule, sound, denies, allowsIn}
+use Rattle.policy.specs.Refusals.{Outcome, accepted, refused, andThen, unless, numberOf}
+use Rattle.policy.specs.Move.{slots, slotsOf, boxesOf, together, anyOver, work, room, Order, Pair, moved, moveRefusal}
+use Rattle.policy.specs.declared.Answer.{Answer}
+use Rattle.policy.specs.declared.Answer.the-variants.{Length, Refused}
+use Rattle.policy.specs.declared.Refusal.{Refusal}
+use Rattle.policy.specs.declared.Refusal.the-variants.{TooManyPieces, TooManyBoxes}
+use Rattle.policy.proofs.Numbers.{orElse-both}
+use Rattle.policy.proofs.Edits.{move-accepted}
+use Rattle.wire.specs.Numbers.{numberBytes, Byte}
+use Rattle.wire.specs.Records.{Fits, boxesBytes, rulesIn}
+use Rattle.wire.specs.Buffers.{filled}
+use Rattle.wire.proofs.Records.{rulesIn-length, proper-fits, boxesBytes-length}
+use Rattle.wire.proofs.Numbers.{numberBytes-length}
+use Rattle.groups.specs.Worked.{workSize}
+use Rattle.sheet.specs.Sections.{sectionSize, countIn}
+use Rattle.sheet.specs.Orders.{order, orderIn, orderBytes}
+use Rattle.sheet.specs.Pairs.{groupSize, groupBytes, groupsBytes, pairBytes, pairSize}
+use Rattle.sheet.specs.Readers.{rulesOf, listsOf, ListsPlace}
+use Rattle.sheet.proofs.Outcomes.{each-every, faultless}
+use Rattle.sheet.proofs.Counts.{counted}
+use Rattle.sheet.proofs.Pairs.{ProperGroup, PairGood, denies-most}
+use Rattle.sheet.proofs.Accepted.{OrderAccepted}
+use Rattle.draft.specs.Drafts.{stretch, groupsIn, Drawn, Drafting, Bounded, Ready, DraftedGroups, draftSize}
+use Rattle.draft.specs.Sheets.{Laid, sheetOf}
+use Rattle.draft.specs.declared.Drafted.the-variants as D
+use Rattle.planner.specs.Calls.{planOf, moveOf, written, lengthOf}
+use Rattle.planner.specs.Steps.{Writes, Planned}
+use Rattle.planner.proofs.Good.{moved-good, pair-short}
+
+-- A refusal writes nothing.
+pub refuses : {A : Type 0} (bytes : A → List ℕ) (size : ℕ) (x : Outcome A) (out w w′ : List ℕ) (f : Refusal)
+    → x ≡ refused (numberOf f) → drop (workSize limits) w′ ≡ drop (workSize limits) w → Writes bytes size x out w (Refused f) out w′
+unfolding lengthOf written
+refuses bytes size x out w w′ f e b = record { answer = rw e; result = rw e; beyond = b }
+
+pub plan-refused : (s out w : List ℕ) (f : Refusal) → orderIn limits s ≡ refused (numberOf f) → Planned s out w (Refused f) out w
+unfolding moveOf
+plan-refused s out w f e = refuses pairBytes (pairSize limits) _ out w w f (rw e) refl
+
+-- Groups of proper boxes, within the total, lie one behind another in their bytes.
+pub groups-laid : (gs : List (List Region)) → Each ProperGroup gs → length (together gs) < 65536 → Laid (length gs) (groupsBytes gs)
+unfolding Laid groupsBytes groupBytes Each together
+groups-laid [] h l = refl
+groups-laid (g ∷ gs) h l =
+    let n : length (together (g ∷ gs)) ≡ length g + length (together gs) = length-append g (together gs) in
+    let b = boxesBytes-length g (each-every (proper highest) (Fits widths) proper-fits g (h .0)) in
+    let c = counted boxSize (length g) (boxesBytes g) (groupsBytes gs) (omega arith) b in
+    (omega (arith, c .long), rw (c .count, c .long) (omega arith), rw (c .count, c .rest) (groups-laid gs (h .1) (omega arith)))
+
+module _ {s : List ℕ} {n m middle : ℕ} (a : OrderAccepted s n m middle) where
+  abbrev o : Order
+  o = listsOf n m middle s
+
+  -- the whole of A, drafted, is the slots of a move
+  whole : (rules : List ℕ) → rules ≡ drop countSize s → stretch 0 n rules ≡ slotsOf o
+  unfolding rulesIn allowsIn
+  whole rules e = rw e
+
+  pub plan-ready : (rules draft w : List ℕ) → rules ≡ drop countSize s → draftSize limits ≤ length draft → workSize limits ≤ length w → Ready rules 0 n draft 0 0 w
+  plan-ready rules draft w e d k =
+      let p = a .place in
+      let f = faultless (limits .gate) (rulesOf n s) (a .gateFaultless) in
+      record {
+        records = rw (e, length-drop) (omega (arith, p .gateEnd, p .ownEnd));
+        rulesSound = rw e (f .sounds);
+        upTo = omega arith;
+        gate = p .gateLimit;
+        room = d;
+        start = record { place = omega arith; few = omega arith };
+        workRoom = k;
+      }
+
+  module _ (rules : List ℕ) (is : rules ≡ drop countSize s) {draft w draft′ w′ : List ℕ} (out : List ℕ) where
+    pub plan-six : DraftedGroups rules 0 n draft 0 0 w D.TooManyPieces draft′ w′ → Planned s out w (Refused TooManyPieces) out w′
+    unfolding Drawn moveOf planOf room work
+    plan-six x =
+        let e : anyOver (limits .pieces) (slotsOf o) ≡ true = rw (← whole rules is) (x .drafting .drawn) in
+        refuses pairBytes (pairSize limits) _ out w w′ TooManyPieces (rw (a .reads, e)) (x .beyond)
+
+    module _ {b end : ℕ} (x : DraftedGroups rules 0 n draft 0 0 w (D.Groups b end) draft′ w′) where
+      light : anyOver (limits .pieces) (slotsOf o) ≡ false
+      unfolding Drawn
+      light = rw (← whole rules is) (x .drafting .drawn .0)
+
+      boxes-are : b ≡ length (together (moved o .groups))
+      unfolding Drawn
+      boxes-are = rw (← whole rules is) (omega (arith, x .drafting .drawn .1))
+
+      pub plan-seven : limits .total < b + m → Planned s out w (Refused TooManyBoxes) out w′
+      unfolding moveOf planOf room work
+      plan-seven h =
+          let t : limits .total < length (together (moved o .groups)) + length (o .own) = omega (arith, boxes-are, rulesIn-length m (drop countSize (drop middle s))) in
+          refuses pairBytes (pairSize limits) _ out w w′ TooManyBoxes (rw (a .reads, light, lt-ltb _ _ t)) (x .beyond)
+
+      -- within the total, the draft is section C of the moved pair
+      module _ (h : b + m ≤ limits .total) (roomy : draftSize limits ≤ length draft) where
+        none : moveRefusal limits o ≡ 0
+        unfolding moveRefusal room work
+        none =
+            let t : length (together (moved o .groups)) + length (o .own) ≤ limits .total = omega (arith, boxes-are, rulesIn-length m (drop countSize (drop middle s))) in
+            orElse-both _ _ (a .gateFaultless) (orElse-both _ _ (a .ownFaultless) (rw (light, le-ltb _ _ t)))
+
+        pub plan-good : PairGood limits (moved o)
+        plan-good = moved-good limits o none
+
+        bytes-drawn : (end ≡ 0 + length (groupsBytes (moved o .groups))) × (draft′ ≡ sets draft 0 (groupsBytes (moved o .groups)))
+        unfolding Drawn
+        bytes-drawn = rw (← whole rules is) (x .drafting .drawn .2 (omega arith))
+
+        pub plan-end : end ≤ length draft
+        plan-end = omega (arith, x .ends .place, a .place .gateLimit)
+
+        pub plan-content : take end draft′ ≡ groupsBytes (moved o .groups)
+        plan-content =
+            let e = bytes-drawn in
+            let z : 0 + length (groupsBytes (moved o .groups)) ≡ length (groupsBytes (moved o .groups)) = omega arith in
+            rw (e .1, sets-eq (groupsBytes (moved o .groups)) draft 0 (omega (arith, plan-end)), e .0)
+            (take-at (groupsBytes (moved o .groups)) (drop (0 + length (groupsBytes (moved o .groups))) draft) (0 + length (groupsBytes (moved o .groups))) (sym z))
+
+        pub plan-laid : (groups : ℕ) → groups ≡ denies (rulesOf n s) → Laid groups (take end draft′)
+        plan-laid groups g =
+            let c : groups ≡ length (moved o .groups) = g ∙ sym (plan-good .counted) in
+            rw (c, plan-content) (groups-laid (moved o .groups) (plan-good .groups .boxes) (omega (arith, plan-good .groups .within)))
+
+        sheet-is : (groups : ℕ) → groups ≡ denies (rulesOf n s) → sheetOf s groups (take end draft′) ≡ pairBytes (moved o)
+        unfolding pairBytes orderBytes
+        sheet-is groups g =
+            let c : groups ≡ length (moved o .groups) = g ∙ sym (plan-good .counted) in
+            rw (c, plan-content, a .gateBytes, a .ownBytes, take-append-drop middle s)
+
+        pub plan-few : (groups : ℕ) → groups ≡ denies (rulesOf n s) → groups < 65536
+        plan-few groups g = omega (arith, denies-most (rulesOf n s), rulesIn-length n (drop countSize s), a .place .gateLimit)
+
+        pub plan-fits : (groups : ℕ) → groups ≡ denies (rulesOf n s) → length s + (countSize + length (take end draft′)) ≤ pairSize limits
+        plan-fits groups g =
+            let l = pair-short limits (moved o) (omega arith) (omega arith) plan-good (omega arith) in
+            let k : length (sheetOf s groups (take end draft′)) ≡ length s + (countSize + length (take end draft′)) = rw (length-append, length-append, numberBytes-length) refl in
+            omega (arith, ap length (sheet-is groups g))
+
+        pub plan-accepted : (groups r : ℕ) (out′ : List ℕ) → groups ≡ denies (rulesOf n s)
+            → (r ≡ length (sheetOf s groups (take end draft′))) × (out′ ≡ filled (pairSize limits) out (sheetOf s groups (take end draft′)))
+            → Planned s out w (Length r) out′ w′
+        unfolding moveOf planOf lengthOf written
+        plan-accepted groups r out′ g e =
+            let z : room limits o (slotsOf o) ≡ 0 = move-accepted limits o none .room in
+            record {
+              answer = rw (a .reads, z, e .0, sheet-is groups g);
+              result = rw (a .reads, z, e .1, sheet-is groups g);
+              beyond = x .beyond;
+            }

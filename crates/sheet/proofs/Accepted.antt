@@ -1,0 +1,142 @@
+-- What a caller knows once a reader has accepted: the lists and groups, and that the bytes are exactly theirs.
+-- Assumes nothing.
+use mathlib.Core.Path.{_≡_, ap, sym, _∙_}
+use mathlib.Core.List.{List, _++_, append-assoc}
+use Prim.Native.Nat.{ℕ, _+_, _-_, _<_}
+use native.Mathlib.Omega.{arith}
+use lib.ListN.{length, take, drop, length-append}
+use lib.Seq.{take-at, drop-at, drop-drop}
+use Rattle.lists.specs.Lists.{Each}
+use Rattle.policy.specs.Fields.{countSize, limits}
+use Rattle.policy.specs.Refusals.{accepted, refused, numberOf}
+use Rattle.policy.specs.Move.{Order, Pair, listRefusal}
+use Rattle.policy.specs.Rules.{denies}
+use Rattle.policy.specs.declared.Refusal.{Refusal}
+use Rattle.wire.specs.Numbers.{numberBytes, Byte}
+use Rattle.wire.proofs.Numbers.{numberBytes-length}
+use Rattle.wire.proofs.Records.{rulesIn-length}
+use Rattle.sheet.specs.Sections.{sectionSize, sectionBytes}
+use Rattle.sheet.specs.Orders.{orderIn, orderBytes, listIn}
+use Rattle.sheet.specs.Pairs.{groupsBytes, pairIn, pairBytes}
+use Rattle.sheet.specs.Readers.{rulesOf, listHeard, ListPlace, ListPlaced, ListRead, listsOf, ListsPlace, orderHeard, OrderPlaced, OrderRead, pairOf, pairHeard, PairPlace, PairPlaced, PairRead}
+use Rattle.sheet.specs.declared.Section.{Section}
+use Rattle.sheet.specs.declared.Section.the-variants as S
+use Rattle.sheet.specs.declared.OrderParts.{OrderParts}
+use Rattle.sheet.specs.declared.OrderParts.the-variants as O
+use Rattle.sheet.specs.declared.PairParts.{PairParts}
+use Rattle.sheet.specs.declared.PairParts.the-variants as P
+use Rattle.sheet.proofs.Sections.{sectionBytes-length}
+use Rattle.sheet.proofs.Orders.{faultless-fits, order-faultless, order-written-back, list-faultless, list-written-back}
+use Rattle.sheet.proofs.Pairs.{PairGood, pair-good, pair-written-back}
+
+-- A list by itself.
+pub list-refused : {most : ℕ} {s : List ℕ} {r : Section} → ListRead most s r → (f : Refusal) → r ≡ S.Fault f → listIn most s ≡ refused (numberOf f)
+unfolding listHeard
+list-refused {s = s} x f e = sym (x .says) ∙ ap (listHeard s) e
+
+pub record ListAccepted (most : ℕ) (s : List ℕ) (n next : ℕ) : Type 0 where
+  pub reads : listIn most s ≡ accepted (rulesOf n s)
+  pub faultless : listRefusal most (rulesOf n s) ≡ 0
+  pub bytes : sectionBytes (rulesOf n s) ≡ s
+  pub place : ListPlace most s n next
+
+pub list-accepted :
+    {most : ℕ} {s : List ℕ} {r : Section} → ListRead most s r → Each Byte s → (n next : ℕ) → r ≡ S.Rules n next → ListAccepted most s n next
+unfolding listHeard ListPlaced
+list-accepted {most} {s} x b n next e =
+    let p : listIn most s ≡ accepted (rulesOf n s) = sym (x .says) ∙ ap (listHeard s) e in
+    record {
+      reads = p;
+      faultless = list-faultless most s (rulesOf n s) p;
+      bytes = list-written-back most s (rulesOf n s) p b;
+      place = rw e at (x .place);
+    }
+
+-- Where a section's bytes end.
+section-end : (most n : ℕ) (s : List ℕ) → most < 65536 → listRefusal most (rulesOf n s) ≡ 0 → length (sectionBytes (rulesOf n s)) ≡ sectionSize n
+section-end most n s h e =
+    sectionBytes-length (rulesOf n s) (faultless-fits most (rulesOf n s) h e .rules) ∙ ap (λ (k : ℕ). sectionSize k) (rulesIn-length n (drop countSize s))
+
+-- An order sheet.
+pub order-refused : {s : List ℕ} {r : OrderParts} → OrderRead s r → (f : Refusal) → r ≡ O.Fault f → orderIn limits s ≡ refused (numberOf f)
+unfolding orderHeard
+order-refused {s} x f e = sym (x .says) ∙ ap (orderHeard s) e
+
+pub record OrderAccepted (s : List ℕ) (n m middle : ℕ) : Type 0 where
+  pub reads : orderIn limits s ≡ accepted (listsOf n m middle s)
+  pub gateFaultless : listRefusal (limits .gate) (rulesOf n s) ≡ 0
+  pub ownFaultless : listRefusal (limits .own) (rulesOf m (drop middle s)) ≡ 0
+  pub gateBytes : sectionBytes (rulesOf n s) ≡ take middle s
+  pub ownBytes : sectionBytes (rulesOf m (drop middle s)) ≡ drop middle s
+  pub place : ListsPlace s n m middle (length s)
+
+pub order-accepted :
+    {s : List ℕ} {r : OrderParts} → OrderRead s r → Each Byte s → (n m middle : ℕ) → r ≡ O.Parts n m middle → OrderAccepted s n m middle
+unfolding orderHeard OrderPlaced orderBytes
+order-accepted {s} x b n m middle e =
+    let o : Order = listsOf n m middle s in
+    let p : ListsPlace s n m middle (length s) = rw e at (x .place) in
+    let q : orderIn limits s ≡ accepted o = sym (x .says) ∙ ap (orderHeard s) e in
+    let f = order-faultless limits s o q in
+    let k : sectionBytes (o .gate) ++ sectionBytes (o .own) ≡ s = order-written-back limits s o q b in
+    let l : length (sectionBytes (o .gate)) ≡ middle = section-end (limits .gate) n s (omega arith) (f .0) ∙ sym (p .gateEnd) in
+    record {
+      reads = q;
+      gateFaultless = f .0;
+      ownFaultless = f .1;
+      gateBytes = sym (ap (take middle) (sym k) ∙ take-at (sectionBytes (o .gate)) (sectionBytes (o .own)) middle l);
+      ownBytes = sym (ap (drop middle) (sym k) ∙ drop-at (sectionBytes (o .gate)) (sectionBytes (o .own)) middle l);
+      place = p;
+    }
+
+-- A pair sheet.
+pub pair-refused : {s : List ℕ} {r : PairParts} → PairRead s r → (f : Refusal) → r ≡ P.Fault f → pairIn limits s ≡ refused (numberOf f)
+unfolding pairHeard
+pair-refused {s} x f e = sym (x .says) ∙ ap (pairHeard s) e
+
+pub record PairAccepted (s : List ℕ) (n m middle third boxes : ℕ) : Type 0 where
+  pub reads : pairIn limits s ≡ accepted (pairOf n m middle third s)
+  pub good : PairGood limits (pairOf n m middle third s)
+  pub bytes : pairBytes (pairOf n m middle third s) ≡ s
+  pub gateBytes : sectionBytes (rulesOf n s) ≡ take middle s
+  pub ownBytes : sectionBytes (rulesOf m (drop middle s)) ≡ take (sectionSize m) (drop middle s)
+  pub listsBytes : orderBytes (listsOf n m middle s) ≡ take third s
+  pub countBytes : numberBytes countSize (denies (rulesOf n s)) ≡ take countSize (drop third s)
+  pub groupBytes : groupsBytes (pairOf n m middle third s .groups) ≡ drop (third + countSize) s
+  pub place : PairPlace s n m middle third boxes
+
+pub pair-accepted :
+    {s : List ℕ} {r : PairParts} → PairRead s r → Each Byte s → (n m middle third boxes : ℕ) → r ≡ P.Parts n m middle third boxes
+    → PairAccepted s n m middle third boxes
+unfolding pairHeard PairPlaced pairBytes orderBytes
+pair-accepted {s} x b n m middle third boxes e =
+    let p : Pair = pairOf n m middle third s in
+    let q : pairIn limits s ≡ accepted p = sym (x .says) ∙ ap (pairHeard s) e in
+    let w : PairPlace s n m middle third boxes = rw e at (x .place) in
+    let g = pair-good limits s p q (omega arith) in
+    let k = pair-written-back limits s p q b in
+    let gate : List ℕ = sectionBytes (rulesOf n s) in
+    let own : List ℕ = sectionBytes (rulesOf m (drop middle s)) in
+    let head : List ℕ = numberBytes countSize (length (p .groups)) in
+    let rest : List ℕ = groupsBytes (p .groups) in
+    let lg : length gate ≡ middle = section-end (limits .gate) n s (omega arith) (g .gate) ∙ sym (w .lists .gateEnd) in
+    let lo : length own ≡ sectionSize m = section-end (limits .own) m (drop middle s) (omega arith) (g .own) in
+    let lt : length (gate ++ own) ≡ third = rw (length-append, lg, lo) (sym (w .lists .ownEnd)) in
+    let behind : head ++ rest ≡ drop third s = sym (ap (drop third) (sym k) ∙ drop-at (gate ++ own) (head ++ rest) third lt) in
+    let whole : gate ++ (own ++ (head ++ rest)) ≡ s = sym (append-assoc gate own (head ++ rest)) ∙ k in
+    let from : own ++ (head ++ rest) ≡ drop middle s = sym (ap (drop middle) (sym whole) ∙ drop-at gate (own ++ (head ++ rest)) middle lg) in
+    let c : head ≡ take countSize (drop third s) =
+    sym (ap (take countSize) (sym behind) ∙ take-at head rest countSize (numberBytes-length countSize (length (p .groups)))) in
+    record {
+      reads = q;
+      good = g;
+      bytes = k;
+      gateBytes = sym (ap (take middle) (sym whole) ∙ take-at gate (own ++ (head ++ rest)) middle lg);
+      ownBytes = sym (ap (take (sectionSize m)) (sym from) ∙ take-at own (head ++ rest) (sectionSize m) lo);
+      listsBytes = sym (ap (take third) (sym k) ∙ take-at (gate ++ own) (head ++ rest) third lt);
+      countBytes = ap (numberBytes countSize) (sym (g .counted)) ∙ c;
+      groupBytes =
+          sym (sym (drop-drop countSize third s)
+          ∙ (ap (drop countSize) (sym behind) ∙ drop-at head rest countSize (numberBytes-length countSize (length (p .groups)))));
+      place = w;
+    }

@@ -1,0 +1,412 @@
+/* Every call of foldplover.h on the example that plan's description prints: three gate rules, one
+ * cell rule. Lengths, bytes and refusals are written here by hand. From the project's root:
+ *
+ *     gcc -std=c11 -Wall -Wextra -Wpedantic -Werror -Iinclude -o target/surface \
+ *         tests/c/surface.c target/staticlib/libfoldplover.a
+ */
+#include <stdio.h>
+#include <string.h>
+
+#include "foldplover.h"
+
+#define ORDER_LENGTH 112u
+#define A_LENGTH 83u
+#define PAIR_LENGTH 220u
+#define CELL_LENGTH 137u
+#define RECORD FOLDPLOVER_RECORD
+#define REFUSAL(number) (FOLDPLOVER_REFUSED + (uint32_t)(number))
+#define UNTOUCHED 0xee
+
+static int failures = 0;
+
+static uint8_t sheet[FOLDPLOVER_PAIR_SHEET + 1];
+static uint8_t work[FOLDPLOVER_WORK + 1];
+static uint8_t list[FOLDPLOVER_CELL_LIST + 1];
+static uint8_t order[FOLDPLOVER_ORDER_SHEET + 1];
+
+static const uint8_t full_allow[RECORD] = {
+    0x00, 0x00, 0x00, 0x00, 0xff, 0xff, 0xff, 0xff, 0x00, 0x00, 0x00, 0x00, 0xff, 0xff,
+    0xff, 0xff, 0x00, 0x00, 0xff, 0xff, 0x00, 0x00, 0xff, 0xff, 0x00, 0xff, 0x01};
+
+static const uint8_t dairy[ORDER_LENGTH] = {
+    0x00, 0x03,
+    0x00, 0x00, 0x00, 0x00, 0xff, 0xff, 0xff, 0xff, 0x00, 0x00, 0x00, 0x0a, 0x00, 0x00,
+    0x00, 0x13, 0x00, 0x00, 0xff, 0xff, 0x00, 0x50, 0x00, 0x50, 0x06, 0x06, 0x01,
+    0x00, 0x00, 0x00, 0x00, 0xff, 0xff, 0xff, 0xff, 0x00, 0x00, 0x00, 0x00, 0x00, 0x00,
+    0x00, 0x1d, 0x00, 0x00, 0xff, 0xff, 0x00, 0x00, 0xff, 0xff, 0x06, 0x06, 0x00,
+    0x00, 0x00, 0x00, 0x00, 0xff, 0xff, 0xff, 0xff, 0x00, 0x00, 0x00, 0x00, 0xff, 0xff,
+    0xff, 0xff, 0x00, 0x00, 0xff, 0xff, 0x00, 0x00, 0xff, 0xff, 0x00, 0xff, 0x01,
+    0x00, 0x01,
+    0x00, 0x00, 0x00, 0x00, 0xff, 0xff, 0xff, 0xff, 0x00, 0x00, 0x00, 0x00, 0xff, 0xff,
+    0xff, 0xff, 0x00, 0x00, 0xff, 0xff, 0x00, 0x00, 0xff, 0xff, 0x00, 0xff, 0x01};
+
+/* Section C: one group of four boxes. */
+static const uint8_t dairy_groups[PAIR_LENGTH - ORDER_LENGTH] = {
+    0x00, 0x01, 0x00, 0x04,
+    0x00, 0x00, 0x00, 0x00, 0xff, 0xff, 0xff, 0xff, 0x00, 0x00, 0x00, 0x00, 0x00,
+    0x00, 0x00, 0x09, 0x00, 0x00, 0xff, 0xff, 0x00, 0x00, 0xff, 0xff, 0x06, 0x06,
+    0x00, 0x00, 0x00, 0x00, 0xff, 0xff, 0xff, 0xff, 0x00, 0x00, 0x00, 0x14, 0x00,
+    0x00, 0x00, 0x1d, 0x00, 0x00, 0xff, 0xff, 0x00, 0x00, 0xff, 0xff, 0x06, 0x06,
+    0x00, 0x00, 0x00, 0x00, 0xff, 0xff, 0xff, 0xff, 0x00, 0x00, 0x00, 0x0a, 0x00,
+    0x00, 0x00, 0x13, 0x00, 0x00, 0xff, 0xff, 0x00, 0x00, 0x00, 0x4f, 0x06, 0x06,
+    0x00, 0x00, 0x00, 0x00, 0xff, 0xff, 0xff, 0xff, 0x00, 0x00, 0x00, 0x0a, 0x00,
+    0x00, 0x00, 0x13, 0x00, 0x00, 0xff, 0xff, 0x00, 0x51, 0xff, 0xff, 0x06, 0x06};
+
+static void expect(const char *what, uint32_t got, uint32_t wanted)
+{
+    if (got != wanted) {
+        printf("surface: %s: expected %lu, got %lu\n", what, (unsigned long)wanted,
+               (unsigned long)got);
+        failures++;
+    }
+}
+
+static void expect_bytes(const char *what, const uint8_t *got, const uint8_t *wanted, size_t count)
+{
+    if (memcmp(got, wanted, count) != 0) {
+        printf("surface: %s: other bytes\n", what);
+        failures++;
+    }
+}
+
+static void expect_all(const char *what, const uint8_t *got, uint8_t wanted, size_t count)
+{
+    size_t place = 0;
+    while (place < count && got[place] == wanted) {
+        place++;
+    }
+    if (place < count) {
+        printf("surface: %s: byte %lu is %u\n", what, (unsigned long)place, got[place]);
+        failures++;
+    }
+}
+
+static uint32_t move(const uint8_t *bytes, size_t length)
+{
+    return foldplover_move(bytes, length, sheet, sizeof sheet, work, sizeof work);
+}
+
+/* The example's pair sheet, as a move leaves it. */
+static void move_dairy(void)
+{
+    memset(sheet, UNTOUCHED, sizeof sheet);
+    memset(work, UNTOUCHED, sizeof work);
+    expect("move", move(dairy, ORDER_LENGTH), PAIR_LENGTH);
+}
+
+static void expect_dairy(const char *what)
+{
+    expect_bytes(what, sheet, dairy, ORDER_LENGTH);
+    expect_bytes(what, sheet + ORDER_LENGTH, dairy_groups, sizeof dairy_groups);
+    expect_all(what, sheet + PAIR_LENGTH, 0, FOLDPLOVER_PAIR_SHEET - PAIR_LENGTH);
+    expect_all(what, sheet + FOLDPLOVER_PAIR_SHEET, UNTOUCHED, 1);
+}
+
+static void test_move(void)
+{
+    move_dairy();
+    expect_dairy("moved sheet");
+    expect_all("work", work, 0, FOLDPLOVER_WORK);
+    expect_all("behind work", work + FOLDPLOVER_WORK, UNTOUCHED, 1);
+}
+
+/* One change to the example for each refusal, in a sheet that has to stay as it was. */
+static void test_move_refusals(void)
+{
+    uint8_t bytes[ORDER_LENGTH + 1];
+    memset(sheet, UNTOUCHED, sizeof sheet);
+    memset(work, UNTOUCHED, sizeof work);
+    expect("short sheet",
+           foldplover_move(dairy, ORDER_LENGTH, sheet, FOLDPLOVER_PAIR_SHEET - 1, work,
+                           sizeof work),
+           REFUSAL(FOLDPLOVER_SHORT));
+    expect("short work",
+           foldplover_move(dairy, ORDER_LENGTH, sheet, sizeof sheet, work, FOLDPLOVER_WORK - 1),
+           REFUSAL(FOLDPLOVER_SHORT));
+    expect_all("work after 1", work, UNTOUCHED, sizeof work);
+    memcpy(bytes, dairy, ORDER_LENGTH);
+    bytes[ORDER_LENGTH] = 0;
+    expect("left over", move(bytes, ORDER_LENGTH + 1), REFUSAL(FOLDPLOVER_MISSING));
+    expect("missing", move(bytes, ORDER_LENGTH - 1), REFUSAL(FOLDPLOVER_MISSING));
+    expect("nothing", move(bytes, 0), REFUSAL(FOLDPLOVER_MISSING));
+    bytes[1] = 0;
+    expect("no gate rule", move(bytes, ORDER_LENGTH), REFUSAL(FOLDPLOVER_COUNT));
+    bytes[1] = 3;
+    bytes[2 + 26] = 2;
+    expect("action 2", move(bytes, ORDER_LENGTH), REFUSAL(FOLDPLOVER_BAD_RULE));
+    bytes[2 + 26] = 1;
+    bytes[ORDER_LENGTH - 2] = 0xfe;
+    expect("protocol 255 missing", move(bytes, ORDER_LENGTH), REFUSAL(FOLDPLOVER_INCOMPLETE));
+    expect_all("refused sheet", sheet, UNTOUCHED, sizeof sheet);
+    expect_all("work after refusals", work, 0, FOLDPLOVER_WORK);
+}
+
+/* Single-source and single-destination allows at 2, 4, .., then deny all; one own rule. */
+static size_t write_grid(uint8_t sources, uint8_t destinations)
+{
+    uint8_t *record = order + 2;
+    uint8_t place;
+    order[0] = 0;
+    order[1] = (uint8_t)(sources + destinations + 1);
+    for (place = 0; place < order[1]; place++, record += RECORD) {
+        uint8_t field = place < sources ? 0 : 8;
+        uint8_t value = (uint8_t)(2 * (1 + place - (place < sources ? 0 : sources)));
+        memcpy(record, full_allow, RECORD);
+        if (place + 1 < order[1]) {
+            memset(record + field, 0, 8);
+            record[field + 3] = value;
+            record[field + 7] = value;
+        } else {
+            record[26] = 0;
+        }
+    }
+    record[0] = 0;
+    record[1] = 1;
+    memcpy(record + 2, full_allow, RECORD);
+    return (size_t)(record - order) + 2 + RECORD;
+}
+
+static void test_limits(void)
+{
+    size_t length = write_grid(31, 31);
+    expect("1,024 boxes, one own rule", move(order, length), REFUSAL(FOLDPLOVER_TOO_MANY_BOXES));
+    length = write_grid(32, 31);
+    expect("1,056 pieces", move(order, length), REFUSAL(FOLDPLOVER_TOO_MANY_PIECES));
+    length = write_grid(32, 30);
+    expect("1,023 boxes, one own rule", move(order, length), 1730u - 27 + 29 + 4 + 1023 * 26);
+}
+
+static uint32_t check(size_t length)
+{
+    return foldplover_check(sheet, length, work, sizeof work);
+}
+
+static void test_check(void)
+{
+    move_dairy();
+    expect("check", check(PAIR_LENGTH), 0);
+    expect("check with a byte more", check(PAIR_LENGTH + 1), REFUSAL(FOLDPLOVER_MISSING));
+    sheet[PAIR_LENGTH - 1] = 7;
+    expect("check of another box", check(PAIR_LENGTH), REFUSAL(FOLDPLOVER_GROUPS));
+    sheet[ORDER_LENGTH + 1] = 2;
+    expect("check of two groups", check(PAIR_LENGTH), REFUSAL(FOLDPLOVER_GROUPS));
+    expect("check, short work", foldplover_check(sheet, PAIR_LENGTH, work, FOLDPLOVER_WORK - 1),
+           REFUSAL(FOLDPLOVER_SHORT));
+}
+
+static void test_gate_list(void)
+{
+    static const uint8_t count[2] = {0x00, 0x01};
+    memset(list, UNTOUCHED, sizeof list);
+    expect("short gate list",
+           foldplover_gate_list(sheet, PAIR_LENGTH, list, FOLDPLOVER_GATE_LIST - 1, work,
+                                sizeof work),
+           REFUSAL(FOLDPLOVER_SHORT));
+    expect("gate list",
+           foldplover_gate_list(sheet, PAIR_LENGTH, list, sizeof list, work, sizeof work),
+           FOLDPLOVER_GATE_LIST);
+    expect_bytes("gate list's count", list, count, 2);
+    expect_bytes("gate list's rule", list + 2, full_allow, RECORD);
+    expect_all("behind the gate list", list + FOLDPLOVER_GATE_LIST, UNTOUCHED,
+               sizeof list - FOLDPLOVER_GATE_LIST);
+    expect("lookup in the gate list",
+           foldplover_lookup(1, 15, 5, 81, 6, list, FOLDPLOVER_GATE_LIST), 1);
+}
+
+static void test_cell_list(void)
+{
+    size_t place;
+    memset(list, UNTOUCHED, sizeof list);
+    expect("cell list",
+           foldplover_cell_list(sheet, PAIR_LENGTH, list, sizeof list, work, sizeof work),
+           CELL_LENGTH);
+    expect("cell list's count", list[1], 5);
+    for (place = 0; place < 4; place++) {
+        const uint8_t *record = list + 2 + place * RECORD;
+        expect_bytes("a box of the cell list", record, dairy_groups + 4 + place * 26, 26);
+        expect("its action", record[26], 0);
+    }
+    expect_bytes("the own rule", list + 2 + 4 * RECORD, full_allow, RECORD);
+    expect_all("behind the cell list", list + CELL_LENGTH, 0, FOLDPLOVER_CELL_LIST - CELL_LENGTH);
+    expect_all("beyond 27,650", list + FOLDPLOVER_CELL_LIST, UNTOUCHED, 1);
+    sheet[PAIR_LENGTH - 1] = 7;
+    expect("cell list of another box",
+           foldplover_cell_list(sheet, PAIR_LENGTH, list, sizeof list, work, sizeof work),
+           REFUSAL(FOLDPLOVER_GROUPS));
+}
+
+static uint32_t lookup(uint32_t dst, uint32_t dport, uint32_t proto)
+{
+    return foldplover_lookup(1, dst, 5, dport, proto, list, CELL_LENGTH);
+}
+
+static void test_lookup(void)
+{
+    expect("destination 9", lookup(9, 80, 6), 0);
+    expect("destination 20", lookup(20, 80, 6), 2);
+    expect("destination port 79", lookup(15, 79, 6), 4);
+    expect("destination port 81", lookup(15, 81, 6), 6);
+    expect("destination port 80", lookup(15, 80, 6), 9);
+    expect("destination 30", lookup(30, 80, 6), 9);
+    expect("protocol 17", lookup(15, 81, 17), 9);
+    expect("protocol 256", lookup(15, 80, 256), REFUSAL(FOLDPLOVER_INCOMPLETE));
+    expect("port 65,536", lookup(15, 65536, 6), REFUSAL(FOLDPLOVER_INCOMPLETE));
+    expect("one byte", foldplover_lookup(1, 9, 5, 80, 6, list, 1), REFUSAL(FOLDPLOVER_MISSING));
+    list[2 + RECORD + 26] = 2;
+    expect("before the bad rule", lookup(9, 80, 6), 0);
+    expect("at the bad rule", lookup(20, 80, 6), REFUSAL(FOLDPLOVER_BAD_RULE));
+    list[1] = 0;
+    expect("no rule", lookup(9, 80, 6), REFUSAL(FOLDPLOVER_COUNT));
+}
+
+static uint32_t insert(uint32_t which, size_t place, const uint8_t *record, size_t length)
+{
+    return foldplover_insert(sheet, sizeof sheet, PAIR_LENGTH, which, place, record, length, work,
+                             sizeof work);
+}
+
+static void test_edits(void)
+{
+    uint8_t record[RECORD];
+    move_dairy();
+    memcpy(record, full_allow, RECORD);
+    record[7] = 7;
+    record[26] = 0;
+    expect("insert a deny", insert(FOLDPLOVER_A, 0, record, RECORD), PAIR_LENGTH + 27 + 2 + 26);
+    expect("check of the insert", check(PAIR_LENGTH + 27 + 2 + 26), 0);
+    expect("delete it",
+           foldplover_delete(sheet, sizeof sheet, PAIR_LENGTH + 27 + 2 + 26, FOLDPLOVER_A, 0, work,
+                             sizeof work),
+           PAIR_LENGTH);
+    expect_dairy("sheet after insert and delete");
+    memcpy(record, dairy + 2, RECORD);
+    record[26] = 0;
+    expect("replace the allow by a deny",
+           foldplover_replace(sheet, sizeof sheet, PAIR_LENGTH, FOLDPLOVER_A, 0, record, RECORD,
+                              work, sizeof work),
+           ORDER_LENGTH + 2 + 28 + 28);
+    expect("check of the replace", check(ORDER_LENGTH + 2 + 28 + 28), 0);
+    expect("replace the deny by the allow",
+           foldplover_replace(sheet, sizeof sheet, ORDER_LENGTH + 2 + 28 + 28, FOLDPLOVER_A, 0,
+                              dairy + 2, RECORD, work, sizeof work),
+           PAIR_LENGTH);
+    expect_dairy("sheet after two replaces");
+    expect("delete the allow",
+           foldplover_delete(sheet, sizeof sheet, PAIR_LENGTH, FOLDPLOVER_A, 0, work, sizeof work),
+           ORDER_LENGTH - RECORD + 2 + 28);
+    expect("check of the delete", check(ORDER_LENGTH - RECORD + 2 + 28), 0);
+    move_dairy();
+    expect("insert in B", insert(FOLDPLOVER_B, 1, full_allow, RECORD), PAIR_LENGTH + RECORD);
+    expect_bytes("groups after an insert in B", sheet + ORDER_LENGTH + RECORD, dairy_groups,
+                 sizeof dairy_groups);
+}
+
+static uint32_t remove_rule(size_t used, uint32_t which, size_t place)
+{
+    return foldplover_delete(sheet, sizeof sheet, used, which, place, work, sizeof work);
+}
+
+static void test_edit_refusals(void)
+{
+    uint8_t record[RECORD];
+    memcpy(record, full_allow, RECORD);
+    move_dairy();
+    expect("stated length", remove_rule(SIZE_MAX, FOLDPLOVER_A, 0), REFUSAL(FOLDPLOVER_SHORT));
+    expect("stated one short", remove_rule(PAIR_LENGTH - 1, FOLDPLOVER_A, 0),
+           REFUSAL(FOLDPLOVER_MISSING));
+    expect("place 3", remove_rule(PAIR_LENGTH, FOLDPLOVER_A, 3), REFUSAL(FOLDPLOVER_NO_PLACE));
+    expect("largest place", remove_rule(PAIR_LENGTH, FOLDPLOVER_B, SIZE_MAX),
+           REFUSAL(FOLDPLOVER_NO_PLACE));
+    expect("list 2", remove_rule(PAIR_LENGTH, 2, 0), REFUSAL(FOLDPLOVER_NO_PLACE));
+    expect("the only own rule", remove_rule(PAIR_LENGTH, FOLDPLOVER_B, 0),
+           REFUSAL(FOLDPLOVER_COUNT));
+    expect("the last gate rule", remove_rule(PAIR_LENGTH, FOLDPLOVER_A, 2),
+           REFUSAL(FOLDPLOVER_INCOMPLETE));
+    expect("place 4", insert(FOLDPLOVER_A, 4, record, 26), REFUSAL(FOLDPLOVER_NO_PLACE));
+    expect("26 bytes", insert(FOLDPLOVER_A, 3, record, 26), REFUSAL(FOLDPLOVER_MISSING));
+    record[26] = 2;
+    expect("action 2", insert(FOLDPLOVER_A, 3, record, RECORD), REFUSAL(FOLDPLOVER_BAD_RULE));
+    expect("not full at the end", insert(FOLDPLOVER_A, 3, dairy + 2, RECORD),
+           REFUSAL(FOLDPLOVER_INCOMPLETE));
+    expect("action 2 in a replace",
+           foldplover_replace(sheet, sizeof sheet, PAIR_LENGTH, FOLDPLOVER_B, 0, record, RECORD,
+                              work, sizeof work),
+           REFUSAL(FOLDPLOVER_BAD_RULE));
+    expect_dairy("sheet after refused edits");
+    expect_all("work after refused edits", work, 0, FOLDPLOVER_WORK);
+}
+
+static void test_split_and_join(void)
+{
+    static uint8_t a[FOLDPLOVER_A_LIST + 1];
+    static uint8_t b[FOLDPLOVER_B_LIST + 1];
+    memset(a, UNTOUCHED, sizeof a);
+    memset(b, UNTOUCHED, sizeof b);
+    memset(order, UNTOUCHED, sizeof order);
+    expect("short B list",
+           foldplover_split(dairy, ORDER_LENGTH, a, sizeof a, b, FOLDPLOVER_B_LIST - 1),
+           REFUSAL(FOLDPLOVER_SHORT));
+    expect("split", foldplover_split(dairy, ORDER_LENGTH, a, sizeof a, b, sizeof b), A_LENGTH);
+    expect_bytes("A list", a, dairy, A_LENGTH);
+    expect_all("behind the A list", a + A_LENGTH, 0, FOLDPLOVER_A_LIST - A_LENGTH);
+    expect_all("beyond 1,730", a + FOLDPLOVER_A_LIST, UNTOUCHED, 1);
+    expect_bytes("B list", b, dairy + A_LENGTH, 29);
+    expect_all("behind the B list", b + 29, 0, FOLDPLOVER_B_LIST - 29);
+    expect_all("beyond 6,914", b + FOLDPLOVER_B_LIST, UNTOUCHED, 1);
+    expect("join with a byte left over",
+           foldplover_join(a, A_LENGTH + 1, b, 29, order, sizeof order),
+           REFUSAL(FOLDPLOVER_MISSING));
+    expect_all("order sheet after a refusal", order, UNTOUCHED, sizeof order);
+    expect("join", foldplover_join(a, A_LENGTH, b, 29, order, sizeof order), ORDER_LENGTH);
+    expect_bytes("joined sheet", order, dairy, ORDER_LENGTH);
+    expect_all("behind the order sheet", order + ORDER_LENGTH, 0,
+               FOLDPLOVER_ORDER_SHEET - ORDER_LENGTH);
+    expect_all("beyond 8,644", order + FOLDPLOVER_ORDER_SHEET, UNTOUCHED, 1);
+}
+
+static void test_record(void)
+{
+    static const uint32_t wanted[FOLDPLOVER_NUMBERS] = {
+        0, 10, 0, 80, 6, 4294967295u, 19, 65535, 80, 6, 1};
+    uint32_t numbers[FOLDPLOVER_NUMBERS + 1];
+    uint8_t record[RECORD + 1];
+    uint32_t place;
+    numbers[FOLDPLOVER_NUMBERS] = 5;
+    record[RECORD] = UNTOUCHED;
+    expect("ten numbers", foldplover_rule(dairy + 2, RECORD, numbers, 10),
+           REFUSAL(FOLDPLOVER_SHORT));
+    expect("26 bytes", foldplover_rule(dairy + 2, 26, numbers, 12), REFUSAL(FOLDPLOVER_MISSING));
+    expect("rule", foldplover_rule(dairy + 2, RECORD, numbers, 12), 0);
+    for (place = 0; place < FOLDPLOVER_NUMBERS; place++) {
+        expect("a number of the rule", numbers[place], wanted[place]);
+    }
+    expect("the twelfth number", numbers[FOLDPLOVER_NUMBERS], 5);
+    expect("record", foldplover_record(numbers, 12, record, sizeof record), RECORD);
+    expect_bytes("record's bytes", record, dairy + 2, RECORD);
+    expect_all("behind the record", record + RECORD, UNTOUCHED, 1);
+    expect("short record", foldplover_record(numbers, 11, record, 26), REFUSAL(FOLDPLOVER_SHORT));
+    numbers[5 + 2] = 65536;
+    expect("port 65,536", foldplover_record(numbers, 11, record, RECORD),
+           REFUSAL(FOLDPLOVER_BAD_RULE));
+    expect_bytes("record after a refusal", record, dairy + 2, RECORD);
+}
+
+int main(void)
+{
+    test_move();
+    test_move_refusals();
+    test_limits();
+    test_check();
+    move_dairy();
+    test_gate_list();
+    test_cell_list();
+    test_lookup();
+    test_edits();
+    test_edit_refusals();
+    test_split_and_join();
+    test_record();
+    if (failures == 0) {
+        printf("surface: ok\n");
+    }
+    return failures == 0 ? 0 : 1;
+}

@@ -1,0 +1,162 @@
+//! Ranges, boxes, rules and lists: 01, "The five fields" and "Cutting one box from another".
+//!
+//! Written to be read beside 01, not to be fast: numbers are `u64` wide so that no sum or
+//! difference comes near an end, lists are vectors, and cutting is a recursion over the fields.
+
+use crate::refusals::{Fault, Part, Refusal};
+
+pub const FIELDS: usize = 5;
+pub const HIGHEST: [u64; FIELDS] = [4_294_967_295, 4_294_967_295, 65_535, 65_535, 255];
+pub const MOST_PIECES: usize = 1_024;
+
+pub type Packet = [u64; FIELDS];
+
+#[derive(Clone, Copy, PartialEq, Eq, Debug)]
+pub struct Range {
+    pub low: u64,
+    pub high: u64,
+}
+
+impl Range {
+    pub fn has(self, value: u64) -> bool {
+        self.low <= value && value <= self.high
+    }
+
+    pub fn shared(self, other: Range) -> Option<Range> {
+        let (low, high) = (self.low.max(other.low), self.high.min(other.high));
+        (low <= high).then_some(Range { low, high })
+    }
+
+    /// Asked only where the two share a value, so the part ends just before the other begins.
+    fn below(self, other: Range) -> Option<Range> {
+        (self.low < other.low).then(|| Range { low: self.low, high: other.low - 1 })
+    }
+
+    fn above(self, other: Range) -> Option<Range> {
+        (other.high < self.high).then(|| Range { low: other.high + 1, high: self.high })
+    }
+}
+
+/// A box; the plain word is taken by the language.
+#[derive(Clone, PartialEq, Eq, Debug)]
+pub struct PacketBox {
+    pub ranges: [Range; FIELDS],
+}
+
+impl PacketBox {
+    pub fn full() -> PacketBox {
+        PacketBox { ranges: HIGHEST.map(|high| Range { low: 0, high }) }
+    }
+
+    pub fn is_full(&self) -> bool {
+        *self == PacketBox::full()
+    }
+
+    pub fn has(&self, packet: &Packet) -> bool {
+        (0..FIELDS).all(|field| self.ranges[field].has(packet[field]))
+    }
+
+    pub fn with(&self, field: usize, range: Range) -> PacketBox {
+        let mut changed = self.clone();
+        changed.ranges[field] = range;
+        changed
+    }
+
+    /// The pieces of this (deny) box outside `allow`, in 01's order.
+    pub fn less(&self, allow: &PacketBox) -> Vec<PacketBox> {
+        self.less_from(0, allow)
+    }
+
+    /// `self` already holds the shared ranges in the fields before `field`.
+    fn less_from(&self, field: usize, allow: &PacketBox) -> Vec<PacketBox> {
+        if field == FIELDS {
+            return Vec::new();
+        }
+        let (own, other) = (self.ranges[field], allow.ranges[field]);
+        match own.shared(other) {
+            None => vec![self.clone()],
+            Some(shared) => {
+                let parts = [own.below(other), own.above(other)];
+                let mut pieces: Vec<PacketBox> =
+                    parts.into_iter().flatten().map(|part| self.with(field, part)).collect();
+                pieces.extend(self.with(field, shared).less_from(field + 1, allow));
+                pieces
+            }
+        }
+    }
+}
+
+#[derive(Clone, Copy, PartialEq, Eq, Debug)]
+pub enum Action {
+    Deny,
+    Allow,
+}
+
+impl Action {
+    pub fn number(self) -> u64 {
+        match self {
+            Action::Deny => 0,
+            Action::Allow => 1,
+        }
+    }
+}
+
+#[derive(Clone, PartialEq, Eq, Debug)]
+pub struct Rule {
+    pub area: PacketBox,
+    pub action: Action,
+}
+
+impl Rule {
+    pub fn new(area: PacketBox, action: Action) -> Rule {
+        Rule { area, action }
+    }
+
+    pub fn allows(&self) -> bool {
+        self.action == Action::Allow
+    }
+}
+
+pub type Group = Vec<PacketBox>;
+
+/// The first rule that has the packet, if any: above a field's highest there is none.
+pub fn first_match(list: &[Rule], packet: &Packet) -> Option<(usize, Action)> {
+    let place = list.iter().position(|rule| rule.area.has(packet))?;
+    Some((place, list[place].action))
+}
+
+/// Every piece in order, replaced by what `allow` leaves of it.
+pub fn take(pieces: &[PacketBox], allow: &PacketBox) -> Vec<PacketBox> {
+    pieces.iter().flat_map(|piece| piece.less(allow)).collect()
+}
+
+/// The group of a deny rule's box behind the rules `earlier`. 6 is looked at after each allow,
+/// so a later one that would remove the pieces again does not help.
+pub fn group(deny: &PacketBox, earlier: &[Rule], part: Part) -> Result<Group, Refusal> {
+    let mut pieces = vec![deny.clone()];
+    for rule in earlier.iter().filter(|rule| rule.allows()) {
+        pieces = take(&pieces, &rule.area);
+        if pieces.len() > MOST_PIECES {
+            return Err(Refusal::new(part, Fault::TooManyPieces));
+        }
+    }
+    Ok(pieces)
+}
+
+/// One group for each deny rule of the gate, in gate order.
+pub fn groups(gate: &[Rule]) -> Result<Vec<Group>, Refusal> {
+    let denies = (0..gate.len()).filter(|&place| !gate[place].allows());
+    denies.map(|place| group(&gate[place].area, &gate[..place], Part::C)).collect()
+}
+
+/// The moved pair's cell list: the groups in front, as denies, so that no gate allow can skip the
+/// cell's own checks.
+pub fn cell_rules(groups: &[Group], own: &[Rule]) -> Vec<Rule> {
+    let denies = groups.iter().flatten().map(|area| Rule::new(area.clone(), Action::Deny));
+    denies.chain(own.iter().cloned()).collect()
+}
+
+/// The moved pair's gate list.
+pub fn gate_rules() -> Vec<Rule> {
+    vec![Rule::new(PacketBox::full(), Action::Allow)]
+}

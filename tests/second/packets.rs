@@ -1,0 +1,55 @@
+//! Packets at every corner of the rules they are looked up in.
+
+use crate::boxes::{Packet, Range, Rule, FIELDS, HIGHEST};
+use crate::random::Random;
+
+const LARGEST_NUMBER: u64 = 4_294_967_295;
+
+/// Both ends and their neighbours, 0, the highest, and above it, once so that the value would
+/// lie in the range if it were cut to the field's width.
+pub fn corners(field: usize, range: Range) -> Vec<u64> {
+    let Range { low, high } = range;
+    let highest = HIGHEST[field];
+    let ends = [low.saturating_sub(1), low, low + 1, high.saturating_sub(1), high, high + 1];
+    let outer = [0, highest, highest + 1, highest + 1 + low, LARGEST_NUMBER];
+    let mut values = [&ends[..], &outer[..]].concat();
+    values.retain(|&value| value <= LARGEST_NUMBER);
+    values.sort_unstable();
+    values.dedup();
+    values
+}
+
+/// A packet in the rule's box, at its ends mostly.
+pub fn inside(random: &mut Random, rule: &Rule) -> Packet {
+    rule.area.ranges.map(|Range { low, high }| {
+        let any = random.within(low, high);
+        random.pick(&[low, high, any])
+    })
+}
+
+/// Packets that leave the rule's box in one field, at every corner of every field.
+pub fn every_corner(random: &mut Random, rule: &Rule) -> Vec<Packet> {
+    let inner = inside(random, rule);
+    let with = |field: usize, value: u64| {
+        let mut packet = inner;
+        packet[field] = value;
+        packet
+    };
+    let fields = 0..FIELDS;
+    fields
+        .flat_map(|field| {
+            corners(field, rule.area.ranges[field]).into_iter().map(move |value| (field, value))
+        })
+        .map(|(field, value)| with(field, value))
+        .collect()
+}
+
+/// Each field at a corner of some rule of the list, not always the same one.
+pub fn mixed(random: &mut Random, rules: &[Rule]) -> Packet {
+    let mut packet = [0; FIELDS];
+    for (field, value) in packet.iter_mut().enumerate() {
+        let rule = &rules[random.index(rules.len())];
+        *value = random.pick(&corners(field, rule.area.ranges[field]));
+    }
+    packet
+}
