@@ -23,10 +23,14 @@ sub-if1 : tie.Need-sub-if1
 sub-if1 c = search needs
 
 returns : tie.Need-returns
-returns c = rw (sym (one-compare (c .before)) ∙ le-leb _ _ (c .if1 .taken))
+returns c =
+    let a = c .before .before .args in
+    rw (sym (one-compare (c .before)) ∙ le-leb (c .before .wrapping-sub-u32 .result) (a .high - a .low) (omega arith))
 
 returns-2 : tie.Need-returns-2
-returns-2 c = rw (sym (one-compare (c .before)) ∙ lt-leb _ _ (c .if1 .left))
+returns-2 c =
+    let a = c .before .before .args in
+    rw (sym (one-compare (c .before)) ∙ lt-leb (c .before .wrapping-sub-u32 .result) (a .high - a .low) (omega arith))
 
 pub count-within-spec : {M : Type 1} → statement M
 count-within-spec = tie.close (tie.spec wrapping-sub-u32-requires sub-if1 returns returns-2)
