@@ -9,8 +9,10 @@ use policy::number_of;
 use wire::count_at;
 use wire::rule_at;
 ghost use mathlib.Core.Path.{_≡_};
+ghost use Prim.Native.Nat.{_≤_};
 ghost use lib.ListN.{length, drop};
 ghost use Rattle.policy.specs.Fields.{countSize, limits};
+ghost use Rattle.policy.specs.Ranges.{range, within};
 ghost use Rattle.policy.specs.Values.{packetOf};
 ghost use Rattle.wire.specs.Records.{rulesIn};
 ghost use Rattle.filter.specs.Lookup.{lookFrom, listSize, lookup, lookupNumber};
@@ -23,6 +25,14 @@ pub const REFUSAL_BASE: u32 = 65536;
 pub enum Verdict {
     Decided { place: usize, action: u32 },
     Refused(Refusal),
+}
+
+// One compare for both ends: what is below low wraps round to the highest numbers.
+fn is_within(x: u32, low: u32, high: u32) -> bool
+    requires { ⌜ low ≤ high ⌝ }
+    ensures { λ r. ⌜ r ≡ within x (range low high) ⌝ }
+{
+    std::num::wrapping_sub_u32(x, low) <= high - low
 }
 
 // The rules of a list of so many, one after another: a field outside its range ends a rule.
@@ -38,10 +48,7 @@ fn scan(p: Packet, list: &[u8], count: usize) -> Verdict
         }
         let bounds = r.bounds;
         for k in 0..FIELDS {
-            if values[k] < bounds.low_at(k) {
-                continue 'rules;
-            }
-            if bounds.high_at(k) < values[k] {
+            if !is_within(values[k], bounds.low_at(k), bounds.high_at(k)) {
                 continue 'rules;
             }
         }

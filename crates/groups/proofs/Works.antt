@@ -13,10 +13,9 @@ use Rattle.lists.specs.Lists.{Each, every}
 use Rattle.lists.proofs.Tests.{and-true}
 use Rattle.policy.specs.Fields.{widths, recordSize, boxSize, limits}
 use Rattle.policy.specs.Ranges.{Region}
-use Rattle.policy.specs.Rules.{Rule, rule, isAllow, sound}
+use Rattle.policy.specs.Rules.{Rule, rule, isAllow, sound, allowsIn}
 use Rattle.policy.specs.Cut.{cutEach, group}
 use Rattle.policy.specs.Move.{over}
-use Rattle.policy.specs.Edit.{allowsIn}
 use Rattle.policy.proofs.Moves.{rule-proper}
 use Rattle.wire.specs.Records.{boxBytes, boxIn, boxesBytes, boxesIn, ruleIn, rulesIn, Fits}
 use Rattle.wire.proofs.Records.{proper-fits, boxBytes-length, box-back, boxesIn-length, rulesIn-length, rule-in-place}

@@ -8,13 +8,14 @@ use Prim.Native.Nat.{ℕ, _+_, _-_, _≤_, _<_}
 use lib.ListN.{length, getD}
 use borrow.Author.Count.{below-more}
 use borrow.Author.Tests.{not-true, not-false}
-use Rattle.policy.specs.Fields.{fields, widths}
-use Rattle.policy.specs.Ranges.{Region, within}
+use Rattle.policy.specs.Fields.{fields, widths, highest}
+use Rattle.policy.specs.Ranges.{Region, Whole, within}
 use Rattle.policy.specs.Rules.{sound}
 use Rattle.policy.specs.Values.{regionOf, rangeAt, ruleOf}
 use Rattle.policy.specs.declared.Rule.{Rule}
+use Rattle.policy.proofs.Moves.{rule-proper, proper-whole}
 use Rattle.wire.proofs.Records.{sound-fits, fits-length}
-use Rattle.filter.proofs.Insides.{InRange, below-outside, above-outside, between-within, outside-at, all-inside}
+use Rattle.filter.proofs.Insides.{InRange, range-whole, outside-at, all-inside}
 use Rattle.filter.proofs.Lookups.{Left, left-all, bad-rule, rule-fits, rule-misses, none-fits}
 use Rattle.filter.proofs.scan.Statement.{statement}
 use Rattle.filter.proofs.scan.Tie as tie
@@ -55,6 +56,9 @@ module _ (a : tie.At-loop Inv-loop μ-loop Inv-rules μ-rules) where
   region-long : length region ≡ fields
   region-long = fits-length widths region (sound-fits (ruleOf value) is-sound .0)
 
+  region-whole : Whole region
+  region-whole = proper-whole highest region (rule-proper (ruleOf value) is-sound)
+
   packet-long : length (start .args .p .values) ≡ fields
   packet-long = search needs
 
@@ -93,14 +97,23 @@ returns c =
 loop-holds : tie.Need-loop-holds Inv-loop μ-loop Inv-rules μ-rules
 loop-holds c = (refl, search needs, λ j h. absurd (omega arith))
 
-mul-if2 : tie.Need-mul-if2 Inv-loop μ-loop Inv-rules μ-rules
-mul-if2 c = search needs
+mul-is-within : tie.Need-mul-is-within Inv-loop μ-loop Inv-rules μ-rules
+mul-is-within c = search needs
 
-array-read-if2 : tie.Need-array-read-if2 Inv-loop μ-loop Inv-rules μ-rules
-array-read-if2 c = search needs
+array-read-is-within : tie.Need-array-read-is-within Inv-loop μ-loop Inv-rules μ-rules
+array-read-is-within c = search needs
 
 low-at-requires : tie.Need-low-at-requires Inv-loop μ-loop Inv-rules μ-rules
 low-at-requires c κs = search needs
+
+high-at-requires : tie.Need-high-at-requires Inv-loop μ-loop Inv-rules μ-rules
+high-at-requires c κs = search needs
+
+is-within-requires : tie.Need-is-within-requires Inv-loop μ-loop Inv-rules μ-rules
+is-within-requires c κs =
+    let a = c .before .before .before in
+    let h = range-whole (region a) (a .loop .k) (region-whole a) (omega (arith, region-long a)) in
+    omega (arith, c .before .low-at .ensures .0, c .high-at .ensures .0)
 
 add-i : tie.Need-add-i Inv-loop μ-loop Inv-rules μ-rules
 add-i c = search needs
@@ -110,28 +123,8 @@ rules-less c = search needs
 
 rules-again : tie.Need-rules-again Inv-loop μ-loop Inv-rules μ-rules
 rules-again c =
-    let a = c .before .before .before in
-    passed a (a .loop .k) (omega arith) (below-outside _ (rangeAt (region a) (a .loop .k)) (rw (c .before .low-at .ensures .0) at (c .if2 .taken)))
-
-high-at-requires : tie.Need-high-at-requires Inv-loop μ-loop Inv-rules μ-rules
-high-at-requires c κs = search needs
-
-mul-if3 : tie.Need-mul-if3 Inv-loop μ-loop Inv-rules μ-rules
-mul-if3 c = search needs
-
-array-read-if3 : tie.Need-array-read-if3 Inv-loop μ-loop Inv-rules μ-rules
-array-read-if3 c = search needs
-
-add-i-2 : tie.Need-add-i-2 Inv-loop μ-loop Inv-rules μ-rules
-add-i-2 c = search needs
-
-rules-less-2 : tie.Need-rules-less-2 Inv-loop μ-loop Inv-rules μ-rules
-rules-less-2 c = search needs
-
-rules-again-2 : tie.Need-rules-again-2 Inv-loop μ-loop Inv-rules μ-rules
-rules-again-2 c =
     let a = c .before .before .before .before .before in
-    passed a (a .loop .k) (omega arith) (above-outside _ (rangeAt (region a) (a .loop .k)) (rw (c .before .high-at .ensures .0) at (c .if3 .taken)))
+    passed a (a .loop .k) (omega arith) (rw (c .before .before .before .low-at .ensures .0, c .before .before .high-at .ensures .0) at (sym (c .before .is-within .ensures) ∙ not-true _ (c .if2 .taken)))
 
 add-k : tie.Need-add-k Inv-loop μ-loop Inv-rules μ-rules
 add-k c = search needs
@@ -142,7 +135,7 @@ loop-less c = search needs
 loop-again : tie.Need-loop-again Inv-loop μ-loop Inv-rules μ-rules
 loop-again c =
     let a = c .before .before .before .before .before in
-    let h = between-within _ (rangeAt (region a) (a .loop .k)) (rw (c .before .before .before .low-at .ensures .0) at (c .before .before .if2 .left)) (rw (c .before .high-at .ensures .0) at (c .if3 .left)) in
+    let h = rw (c .before .before .before .low-at .ensures .0, c .before .before .high-at .ensures .0) at (sym (c .before .is-within .ensures) ∙ not-false _ (c .if2 .left)) in
     (a .loop .inv .0, omega arith, below-more (InRange (start a .args .p .values) (region a)) (a .loop .k) (a .loop .inv .2) h)
 
 returns-2 : tie.Need-returns-2 Inv-loop μ-loop Inv-rules μ-rules
@@ -173,18 +166,14 @@ scan-spec =
     is-sound-requires
     returns
     loop-holds
-    mul-if2
-    array-read-if2
+    mul-is-within
+    array-read-is-within
     low-at-requires
+    high-at-requires
+    is-within-requires
     add-i
     rules-less
     rules-again
-    high-at-requires
-    mul-if3
-    array-read-if3
-    add-i-2
-    rules-less-2
-    rules-again-2
     add-k
     loop-less
     loop-again
