@@ -2,32 +2,35 @@
 -- size that the call asks for. Assumes nothing.
 use mathlib.Core.Path.{_≡_, refl, ap, sym, subst, _∙_}
 use mathlib.Core.List.{List}
-use Prim.Native.Nat.{ℕ, _+_, _-_, _<_, _≤_}
+use mathlib.Core.Bool.{Bool, _&&_}
+use Prim.Native.Nat.{ℕ, _<_}
 use native.Mathlib.Omega.{arith}
 use lib.Dec.{leb}
-use lib.ListN.{length, replicate, drop, length-append, length-drop, length-replicate}
+use lib.ListN.{length}
 use borrow.Author.Tests.{leb-true}
 use Rattle.policy.specs.Fields.{limits, recordSize}
 use Rattle.policy.specs.Rules.{Rule}
 use Rattle.policy.specs.Refusals.{Outcome, accepted, refused, test, said}
 use Rattle.policy.specs.Move.{Order}
 use Rattle.policy.specs.declared.Answer.{Answer}
+use Rattle.policy.specs.declared.Answer.the-variants.{Length, Refused}
 use Rattle.policy.proofs.Answers.{test-accepted}
-use Rattle.wire.specs.Buffers.{filled}
 use Rattle.wire.specs.RecordCalls.{readingOf, writingOf, answered, RecordRead, RecordWritten}
 use Rattle.sheet.specs.Sections.{sectionBytes}
 use Rattle.sheet.specs.Orders.{orderBytes, orderIn, gateSize, ownSize, orderSize}
 use Rattle.sheet.specs.Split.{splitOf, splitSaid, splitGate, Split}
 use Rattle.sheet.specs.Join.{joinOf, joinSaid, joinSheet, Join}
+use Rattle.planner.specs.Calls.{roomFor, Call}
+use Rattle.planner.proofs.Lengths.{filled-within, call-length}
 use Rattle.filter.specs.Lookup.{refusalBase}
 use Rattle.foldplover.specs.Coded.{Plain}
 
--- Content that leaves a buffer's length as it was is not longer than where the zeros behind it end.
-filled-within : (end : ℕ) (out content : List ℕ) → end ≤ length out → length (filled end out content) ≡ length out → length content ≤ end
-unfolding filled
-filled-within end out content h e =
-    let k = simp (length-append, length-replicate, length-drop) at e in
-    omega arith
+-- A call that writes into a buffer of a size below every refusal's number.
+pub call-plain :
+    {A : Type 0} (bytes : A → List ℕ) (size : ℕ) (b : Bool) (x : Outcome A) (out : List ℕ) {w out′ w′ : List ℕ} (q : Answer)
+    → Call bytes size (roomFor size out && b) x out w q out′ w′ → length out′ ≡ length out → size < refusalBase → Plain (said q)
+call-plain bytes size b x out (Length n) c e h = let k = call-length bytes size b x out c e n refl in omega arith
+call-plain bytes size b x out (Refused f) c e h = tt
 
 -- The record calls.
 answered-plain : (n : ℕ) → n < refusalBase → (x : Outcome Rule) → Plain (answered n x)

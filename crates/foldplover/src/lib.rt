@@ -10,6 +10,7 @@ ghost use Rattle.policy.specs.Refusals.{said};
 ghost use Rattle.wire.specs.RecordCalls.{RecordRead, RecordWritten};
 ghost use Rattle.sheet.specs.Split.{Split};
 ghost use Rattle.sheet.specs.Join.{Join};
+ghost use Rattle.planner.specs.Calls.{Moves};
 ghost use Rattle.filter.specs.Lookup.{lookup, lookupNumber};
 ghost use Rattle.foldplover.specs.Coded.{coded, Plain, Coded};
 
@@ -21,6 +22,13 @@ fn answer_number(a: Answer) -> u32
         Answer::Length(n) => n as u32,
         Answer::Refused(f) => REFUSAL_BASE + number_of(f),
     }
+}
+
+#[no_mangle]
+pub extern "C" fn foldplover_move(order: &[u8], sheet: &mut [u8], work: &mut [u8]) -> u32
+    ensures { λ r. ⌜ Coded (λ q. Moves (now (order .entry)) (now (sheet .entry)) (now (work .entry)) q (now (sheet .exit)) (now (work .exit))) r ⌝ }
+{
+    answer_number(planner::move_order(order, sheet, work))
 }
 
 #[no_mangle]

@@ -1,37 +1,28 @@
+-- `answer_number` meets its contract, case by case. Assumes nothing.
 use borrow.Author.Needs.{needs}
 use native.Mathlib.Omega.{arith}
 use Rattle.foldplover.proofs.Codes.{length-small, refused-number}
 use Rattle.foldplover.proofs.answer_number.Statement.{statement}
 use Rattle.foldplover.proofs.answer_number.Tie as tie
-use Rattle.foldplover.proofs.answer_number.Reads as reads
-use Rattle.foldplover.proofs.answer_number.Lts as lts
-use Rattle.policy.proofs.number_of.Reads as number-of-reads
 
--- src/lib.rt:17:24
 enum-known-a : tie.Need-enum-known-a
 enum-known-a c = search needs
 
--- src/lib.rt:17:30
 cast-result : tie.Need-cast-result
 cast-result c = let h = length-small (c .before .before .before .args .a) (c .before .before .before .pre) _ (c .before .a .given .1) in omega arith
 
--- src/lib.rt:18:25
 enum-known-a-2 : tie.Need-enum-known-a-2
 enum-known-a-2 c = search needs
 
--- src/lib.rt:18:46
 number-of-requires : tie.Need-number-of-requires
 number-of-requires c κs = search needs
 
--- src/lib.rt:18:31
 add-result : tie.Need-add-result
 add-result c = search needs
 
--- src/lib.rt:12:1
 returns : tie.Need-returns
 returns c = search needs
 
--- src/lib.rt:12:1
 returns-2 : tie.Need-returns-2
 returns-2 c = search (needs, refused-number)
 

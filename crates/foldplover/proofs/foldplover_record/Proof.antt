@@ -1,28 +1,27 @@
+-- `foldplover_record` meets its contract: it hands over to `record`. Assumes nothing.
 use borrow.Author.Needs.{needs}
+use Rattle.policy.specs.Refusals.{said}
+use Rattle.foldplover.specs.Coded.{Plain}
 use Rattle.foldplover.proofs.Plain.{written-plain}
 use Rattle.foldplover.proofs.foldplover_record.Statement.{statement}
 use Rattle.foldplover.proofs.foldplover_record.Tie as tie
-use Rattle.foldplover.proofs.foldplover_record.Reads as reads
-use Rattle.foldplover.proofs.foldplover_record.Lts as lts
-use Rattle.foldplover.proofs.answer_number.Reads as answer-number-reads
-use Rattle.wire.proofs.record.record.Reads as record-reads
 
--- src/lib.rt:47:19
 record-requires : tie.Need-record-requires
 record-requires c κs = search needs
 
--- src/lib.rt:47:5
-answer-number-requires : tie.Need-answer-number-requires
-answer-number-requires c κs = written-plain (c .before .before .«record» .ensures)
+plain : (c : tie.After-slice-known2) → Plain (said (c .before .before .«record» .result))
+plain c = written-plain (c .before .before .«record» .ensures)
 
--- src/lib.rt:43:1
+answer-number-requires : tie.Need-answer-number-requires
+answer-number-requires c κs = plain c
+
 same-length : tie.Need-same-length
 same-length c = search needs
 
--- src/lib.rt:43:1
 returns : tie.Need-returns
-returns c = record { answer = c .before .before .before .«record» .result; below = c .before .before .before .«record» .ensures; number = c .answer-number .ensures; plain = written-plain (c .before .before .before .«record» .ensures) }
+returns c =
+    let k = c .before .before .before .«record» in
+    record { answer = k .result; below = k .ensures; number = c .answer-number .ensures; plain = plain (c .before) }
 
 pub foldplover-record-spec : {M : Type 1} → statement M
-foldplover-record-spec =
-    tie.close (tie.spec record-requires answer-number-requires same-length returns)
+foldplover-record-spec = tie.close (tie.spec record-requires answer-number-requires same-length returns)
