@@ -9,7 +9,6 @@ use policy::number_of;
 use wire::count_at;
 use wire::rule_at;
 ghost use mathlib.Core.Path.{_≡_};
-ghost use mathlib.Core.List.{[], _∷_};
 ghost use mathlib.Core.Bool.{true, false, cond};
 ghost use Prim.Native.Nat.{_+_, _≤_, _<_};
 ghost use lib.ListN.{length, drop};
@@ -21,7 +20,7 @@ ghost use Rattle.filter.specs.Lookup.{lookFrom, listSize, lookup, lookup
 ghost use Rattle.filter.specs.Verdicts.{verdict};
 
 // For C a refusal is this and its number.
-const REFUSAL_BASE: u32 = 65536;
+pub const REFUSAL_BASE: u32 = 65536;
 
 // The rule that decides, or the refusal.
 pub enum Verdict {
@@ -108,19 +107,11 @@ pub fn lookup(p: Packet, list: &[u8]) -> Verdict
     lookup_within(TOTAL_MOST, p, list)
 }
 
-#[no_mangle]
-pub extern "C" fn foldplover_lookup(
-    src: u32,
-    dst: u32,
-    sport: u32,
-    dport: u32,
-    proto: u32,
-    list: &[u8],
-) -> u32
-    ensures { λ r. ⌜ r ≡ lookupNumber (lookup (limits .total) (src ∷ dst ∷ sport ∷ dport ∷ proto ∷ []) (now (list .entry))) ⌝ }
+// The verdict as one number.
+pub fn lookup_number(p: Packet, list: &[u8]) -> u32
+    ensures { λ r. ⌜ r ≡ lookupNumber (lookup (limits .total) (packetOf p) (now (list .entry))) ⌝ }
 {
-    let values = [src, dst, sport, dport, proto];
-    match lookup(Packet { values }, list) {
+    match lookup(p, list) {
         Verdict::Decided { place, action } => 2 * (place as u32) + action,
         Verdict::Refused(f) => REFUSAL_BASE + number_of(f),
     }

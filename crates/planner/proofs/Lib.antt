@@ -2,3 +2,4 @@ pub mod Good
 pub mod Demands
 pub mod Calls
 pub mod Planning
+pub mod Lengths

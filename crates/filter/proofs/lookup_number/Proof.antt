@@ -1,12 +1,12 @@
--- `foldplover_lookup` meets its contract: the verdict is turned into its number. Assumes nothing.
+-- `lookup_number` meets its contract: the verdict is turned into its number. Assumes nothing.
 use borrow.Author.Needs.{needs}
 use native.Mathlib.Omega.{arith}
-use mathlib.Core.List.{[], _∷_}
 use Prim.Native.Nat.{_<_, _≤_}
 use Rattle.policy.specs.Fields.{limits}
+use Rattle.policy.specs.Values.{packetOf}
 use Rattle.filter.proofs.Verdicts.{decided-small, decided-number, refused-number}
-use Rattle.filter.proofs.foldplover_lookup.Statement.{statement}
-use Rattle.filter.proofs.foldplover_lookup.Tie as tie
+use Rattle.filter.proofs.lookup_number.Statement.{statement}
+use Rattle.filter.proofs.lookup_number.Tie as tie
 
 lookup-requires : tie.Need-lookup-requires
 lookup-requires c κs = search needs
@@ -20,7 +20,7 @@ module _ (c : tie.After-known-told) where
   small =
       let k = c .before .before .before .lookup in
       let a = c .before .before .before .before .before .args in
-      decided-small (limits .total) (a .src ∷ a .dst ∷ a .sport ∷ a .dport ∷ a .proto ∷ []) (a .list .now) (k .result) (k .ensures) _ _ (c .before .place .given .1)
+      decided-small (limits .total) (packetOf (a .p)) (a .list .now) (k .result) (k .ensures) _ _ (c .before .place .given .1)
 
 cast-result : tie.Need-cast-result
 cast-result c = let s = small c in omega arith
@@ -46,8 +46,8 @@ returns c = search (needs, decided-number)
 returns-2 : tie.Need-returns-2
 returns-2 c = search (needs, refused-number)
 
-pub foldplover-lookup-spec : {M : Type 1} → statement M
-foldplover-lookup-spec =
+pub lookup-number-spec : {M : Type 1} → statement M
+lookup-number-spec =
     tie.close
     (tie.spec
     lookup-requires
