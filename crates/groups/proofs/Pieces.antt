@@ -7,18 +7,12 @@ use native.Mathlib.Numerals.{add-one}
 use lib.ListN.{length, take, drop, take-append-drop}
 use lib.Seq.{take-add, take-at, take-nil, take-take, drop-at, drop-cons, length-take-le}
 use Rattle.lists.specs.Lists.{Each}
-use Rattle.lists.proofs.Lists.{each-imp}
+use Rattle.lists.proofs.Lists.{each-imp, each-take, each-drop}
 use Rattle.policy.specs.Fields.{widths, boxSize}
 use Rattle.policy.specs.Ranges.{Region}
 use Rattle.wire.specs.Records.{boxBytes, boxIn, boxesBytes, boxesIn, Fits}
 use Rattle.wire.proofs.Records.{proper-fits, boxBytes-length, box-back, boxesBytes-length, boxesIn-length, box-in-place}
 use Rattle.groups.specs.Stores.{Proper, Stands}
-
--- What holds of each element of two lists put together holds of each of the two.
-each-parts : {A : Type 0} (P : A → Type 0) (l k : List A) → Each P (l ++ k) → Each P l × Each P k
-unfolding Each
-each-parts P [] k h = (tt, h)
-each-parts P (a ∷ l) k h = let r = each-parts P l k (h .1) in ((h .0, r .0), r .1)
 
 drop-take : {A : Type 0} (n m : ℕ) (l : List A) → drop n (take (n + m) l) ≡ take m (drop n l)
 drop-take zero m l = let e : 0 + m ≡ m = omega arith in ap (λ (k : ℕ). take k l) e
@@ -39,12 +33,6 @@ boxes-next n i s h = drop-cons (boxesIn n s) i [] (rw boxesIn-length h) ∙ rw (
 
 module _ {n : ℕ} {work : List ℕ} (st : Stands n work) (room : boxSize * n ≤ length work) where
   module _ (i : ℕ) (h : i ≤ n) where
-    each-split : Each Proper (take i (boxesIn n work)) × Each Proper (drop i (boxesIn n work))
-    each-split = each-parts Proper (take i (boxesIn n work)) (drop i (boxesIn n work)) (rw (take-append-drop i (boxesIn n work)) (st .each))
-
-    pub each-from : Each Proper (drop i (boxesIn n work))
-    each-from = each-split .1
-
     -- The bytes of the pieces before place i, and of those from there on.
     parts : take (boxSize * i) work ++ take (boxSize * (n - i)) (drop (boxSize * i) work) ≡ boxesBytes (take i (boxesIn n work)) ++ boxesBytes (drop i (boxesIn n work))
     parts =
@@ -57,7 +45,7 @@ module _ {n : ℕ} {work : List ℕ} (st : Stands n work) (room : boxSize * n �
 
     before-length : length (boxesBytes (take i (boxesIn n work))) ≡ boxSize * i
     before-length =
-        boxesBytes-length (take i (boxesIn n work)) (proper-all (take i (boxesIn n work)) (each-split .0))
+        boxesBytes-length (take i (boxesIn n work)) (proper-all (take i (boxesIn n work)) (each-take Proper i (boxesIn n work) (st .each)))
         ∙ ap (λ (k : ℕ). boxSize * k) (length-take-le i (boxesIn n work) (rw boxesIn-length h))
 
     pub bytes-before : take (boxSize * i) work ≡ boxesBytes (take i (boxesIn n work))
@@ -74,7 +62,7 @@ module _ {n : ℕ} {work : List ℕ} (st : Stands n work) (room : boxSize * n �
   module _ (i : ℕ) (h : i < n) where
     pub fits-at : Fits widths (boxIn (drop (boxSize * i) work))
     unfolding Each
-    fits-at = proper-fits (boxIn (drop (boxSize * i) work)) ((rw (boxes-next n i work h) at (each-from i (omega arith))) .0)
+    fits-at = proper-fits (boxIn (drop (boxSize * i) work)) ((rw (boxes-next n i work h) at (each-drop Proper i (boxesIn n work) (st .each))) .0)
 
     bytes-at : take boxSize (drop (boxSize * i) work) ≡ boxBytes (boxIn (drop (boxSize * i) work))
     unfolding boxesBytes

@@ -1,56 +1,39 @@
 -- What taking an allow from all pieces leaves at the front of the work buffer. Assumes nothing.
 use mathlib.Core.Path.{_≡_, ap, sym, _∙_}
 use mathlib.Core.List.{List, [], _∷_, _++_, append-assoc}
-use mathlib.Core.Bool.{true, false≢true}
 use Prim.Native.Nat.{ℕ, _+_, _-_, _*_, _<_, _≤_}
 use native.Mathlib.Omega.{arith}
-use lib.Dec.{leb}
 use lib.ListN.{length, take, drop, length-append}
 use lib.Seq.{sets-eq, take-at, drop-at, drop-append-add, drop-drop, length-take-le}
-use borrow.Author.Tests.{leb-true, le-leb}
 use Rattle.lists.specs.Lists.{Each}
-use Rattle.lists.proofs.Lists.{each-append, each-imp}
-use Rattle.lists.proofs.Tests.{and-true, and-both}
+use Rattle.lists.proofs.Lists.{each-append, each-drop, each-imp}
 use Rattle.policy.specs.Fields.{widths, highest, boxSize}
-use Rattle.policy.specs.Ranges.{Region, Whole, Within, everyField, properRange, proper}
+use Rattle.policy.specs.Ranges.{Region}
 use Rattle.policy.specs.Demands.{Piece}
 use Rattle.policy.specs.Cut.{cut, cutEach}
 use Rattle.policy.proofs.Cuts.{cut-inside}
 use Rattle.policy.proofs.Moves.{proper-whole}
+use Rattle.policy.proofs.Proper.{proper-piece}
 use Rattle.wire.specs.Records.{boxesBytes, boxesIn, Fits}
 use Rattle.wire.proofs.Records.{boxesBytes-length, boxesIn-length, boxes-back}
 use Rattle.groups.specs.Stores.{places, Stored, Proper, Stands, Untouched, copiedDown, Taken}
 use Rattle.groups.proofs.Stores.{take-store, drop-store, store-fits}
-use Rattle.groups.proofs.Pieces.{boxes-bytes, proper-all, each-from, bytes-before}
+use Rattle.groups.proofs.Pieces.{boxes-bytes, proper-all, bytes-before}
 
--- A piece of a box that number 4 lets pass is such a box.
-piece-proper : (hs : List ℕ) (d b : Region) → proper hs d ≡ true → Piece d b → proper hs b ≡ true
-unfolding everyField Whole Within
-piece-proper [] [] [] h p = h
-piece-proper [] [] (r ∷ b) h p = absurd (p .1)
-piece-proper [] (s ∷ d) b h p = absurd (false≢true h)
-piece-proper (x ∷ hs) [] b h p = absurd (false≢true h)
-piece-proper (x ∷ hs) (s ∷ d) [] h p = absurd (p .1)
-piece-proper (x ∷ hs) (s ∷ d) (r ∷ b) h p =
-    let f = and-true (properRange x s) (proper hs d) h in
-    let g = leb-true (s .high) x (and-true (leb (s .low) (s .high)) (leb (s .high) x) (f .0) .1) in
-    and-both (properRange x r) (proper hs b)
-    (and-both (leb (r .low) (r .high)) (leb (r .high) x) (le-leb (r .low) (r .high) (p .0 .0)) (le-leb (r .high) x (omega arith)))
-    (piece-proper hs d b (f .1) (p .0 .1, p .1 .2))
-
+-- The pieces of boxes that number 4 lets pass are such boxes.
 pub cutEach-proper : (ds : List Region) (a : Region) → Each Proper ds → Proper a → Each Proper (cutEach ds a)
 unfolding cutEach Each
 cutEach-proper [] a h k = tt
 cutEach-proper (d ∷ ds) a h k =
     each-append Proper (cut d a) (cutEach ds a)
-    (each-imp (Piece d) Proper (cut d a) (λ b q. piece-proper highest d b (h .0) q) (cut-inside d a (proper-whole highest d (h .0)) (proper-whole highest a k)))
+    (each-imp (Piece d) Proper (cut d a) (λ b q. proper-piece highest d b (h .0) q) (cut-inside d a (proper-whole highest d (h .0)) (proper-whole highest a k)))
     (cutEach-proper ds a (h .1) k)
 
 module _ {half : ℕ} {work : List ℕ} {n : ℕ} {a : Region} {first : ℕ} {work₁ : List ℕ} {m : ℕ} (st : Stands n work) (ok : Proper a)
     (room : half + half ≤ length work) (half-fits : boxSize * places ≤ half) (few : n ≤ places) (u : Untouched n work a first)
     (s : Stored half work first (cutEach (drop first (boxesIn n work)) a) work₁ m) where
   later-proper : Each Proper (cutEach (drop first (boxesIn n work)) a)
-  later-proper = cutEach-proper (drop first (boxesIn n work)) a (each-from st (omega arith) first (u .upto)) ok
+  later-proper = cutEach-proper (drop first (boxesIn n work)) a (each-drop Proper first (boxesIn n work) (st .each)) ok
 
   later-fits : Each (Fits widths) (cutEach (drop first (boxesIn n work)) a)
   later-fits = proper-all (cutEach (drop first (boxesIn n work)) a) later-proper
