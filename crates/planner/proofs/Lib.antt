@@ -1,4 +1,7 @@
 pub mod Good
 pub mod Demands
 pub mod Calls
+pub mod Drafting
 pub mod Planning
+pub mod Checking
+pub mod Listing
