@@ -1,30 +1,39 @@
 -- Whether a packet is in a box, told field by field and in any order. Assumes nothing.
-use mathlib.Core.Path.{_≡_, refl, ap, sym, _∙_}
-use mathlib.Core.List.{List, [], _∷_}
-use mathlib.Core.Bool.{Bool, true, false, _&&_}
-use Prim.Native.Nat.{ℕ, zero, suc, _+_, _<_, _≤_, zero-le, suc-le-suc}
+use mathlib.Core.Path.{_≡_, refl}
+use mathlib.Core.List.{[], _∷_}
+use mathlib.Core.Bool.{Bool, true, false, cond, _&&_}
+use Prim.Native.Nat.{_%_, _^_, _+_, _-_, ℕ, zero, suc, _<_, _≤_, zero-le, suc-le-suc}
 use native.Mathlib.Omega.{arith}
 use lib.Dec.{leb}
 use lib.ListN.{length, getD}
-use borrow.Author.Tests.{le-leb, lt-leb}
-use Rattle.lists.proofs.Tests.{and-both}
-use Rattle.policy.specs.Ranges.{Range, Region, Packet, within, inside}
+use borrow.Author.Tests.{le-leb, leb-true}
+use Rattle.lists.proofs.Tests.{and-true, and-both, bool-eq}
+use Rattle.policy.specs.Ranges.{Range, Region, Packet, within, inside, Whole}
 use Rattle.policy.specs.Values.{rangeAt}
 
 and-false : (b : Bool) → (b && false) ≡ false
 and-false true = refl
 and-false false = refl
 
--- One value and one range.
-module _ (x : ℕ) (r : Range) where
-  pub below-outside : x < r .low → within x r ≡ false
-  below-outside h = rw (lt-leb (r .low) x h)
+-- One compare for both ends of a range: w is x less the low, wrapped round below 0.
+pub wrapped-within : (x w : ℕ) (r : Range) → r .low ≤ r .high → r .high < 2 ^ 32 → w < 2 ^ 32 → (w + r .low) % 2 ^ 32 ≡ x → leb w (r .high - r .low) ≡ within x r
+wrapped-within x w r l h k e =
+    bool-eq (leb w (r .high - r .low)) (within x r)
+    (λ t.
+    let m = leb-true w (r .high - r .low) t in
+    and-both (leb (r .low) x) (leb x (r .high)) (le-leb (r .low) x (omega arith)) (le-leb x (r .high) (omega arith)))
+    (λ t.
+    let b = and-true (leb (r .low) x) (leb x (r .high)) t in
+    let u = leb-true (r .low) x (b .0) in
+    let v = leb-true x (r .high) (b .1) in
+    le-leb w (r .high - r .low) (omega arith))
 
-  pub above-outside : r .high < x → within x r ≡ false
-  above-outside h = rw (lt-leb x (r .high) h) (and-false (leb (r .low) x))
-
-  pub between-within : r .low ≤ x → x ≤ r .high → within x r ≡ true
-  between-within h g = rw (le-leb (r .low) x h, le-leb x (r .high) g)
+-- A sound rule's range at a field is not empty.
+pub range-whole : (b : Region) (k : ℕ) → Whole b → k < length b → rangeAt b k .low ≤ rangeAt b k .high
+unfolding Whole
+range-whole [] k h g = absurd (omega arith)
+range-whole (r ∷ b) zero h g = h .0
+range-whole (r ∷ b) (suc k) h g = range-whole b k (h .1) (omega arith)
 
 -- A packet with one value outside its range is not in the box.
 pub outside-at : (p : Packet) (b : Region) (k : ℕ) → k < length p → k < length b → within (getD p k 0) (rangeAt b k) ≡ false → inside p b ≡ false
@@ -45,3 +54,19 @@ all-inside [] (r ∷ b) e f = absurd (omega arith)
 all-inside (x ∷ p) [] e f = absurd (omega arith)
 all-inside (x ∷ p) (r ∷ b) e f =
     and-both (within x r) (inside p b) (f 0 (suc-le-suc zero-le)) (all-inside p b (omega arith) (λ k h. f (suc k) (suc-le-suc h)))
+
+-- A loop over the fields, in whatever order, has tried k of them, and n were in their ranges: if all were, then every field
+-- passed is in its range, and if not, the packet is not in the box.
+abbrev pub Tried : Packet → Region → (ℕ → Type 0) → ℕ → ℕ → Type 0
+Tried p b Passed k n = (n ≤ k) × (n ≡ k → ((j : ℕ) → Passed j → InRange p b j)) × (n < k → inside p b ≡ false)
+
+-- One field more: f.
+module _ (p : Packet) (b : Region) (Passed Then : ℕ → Type 0) (f k n : ℕ) (u : f < length p) (v : f < length b)
+    (and-f : ((j : ℕ) → Passed j → InRange p b j) → InRange p b f → (j : ℕ) → Then j → InRange p b j)
+    (tried : Tried p b Passed k n) where
+  tried-more : (t : Bool) → within (getD p f 0) (rangeAt b f) ≡ t → Tried p b Then (k + 1) (n + cond t 1 0)
+  tried-more true e = (omega (arith, tried .0), λ h. and-f (tried .1 (omega arith)) e, λ h. tried .2 (omega arith))
+  tried-more false e = (omega (arith, tried .0), λ h. absurd (omega (arith, tried .0)), λ h. outside-at p b f u v e)
+
+  pub tried-next : (m : ℕ) → m ≡ cond (within (getD p f 0) (rangeAt b f)) 1 0 → Tried p b Then (k + 1) (n + m)
+  tried-next m e = rw e (tried-more (within (getD p f 0) (rangeAt b f)) refl)

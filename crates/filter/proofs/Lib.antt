@@ -1,3 +1,4 @@
 pub mod Insides
 pub mod Lookups
 pub mod Verdicts
+pub mod Lists

@@ -81,3 +81,21 @@ module _ (most : ℕ) (p : Packet) (s : List ℕ) (v : Verdict) (says : verdict 
   pub refused-number : (f : Refusal) (m : ℕ) → v ≡ Refused f → m ≡ numberOf f → refusalBase + m ≡ lookupNumber (lookup most p s)
   unfolding lookupNumber
   refused-number f m is e = rw e (sym (ap lookupNumber (sym says ∙ ap verdict is)))
+
+-- The number for C tells the whole outcome: no two outcomes of lookups have the same.
+tells : (n : ℕ) → 2 * n ≤ refusalBase → (o q : Outcome Hit) → ((h : Hit) → o ≡ accepted h → Small n h) → ((h : Hit) → q ≡ accepted h → Small n h)
+    → lookupNumber o ≡ lookupNumber q → o ≡ q
+unfolding lookupNumber
+tells n b (accepted h) (accepted k) f g e =
+    let x = f h refl in
+    let y = g k refl in
+    let d : h .place ≡ k .place = omega arith in
+    let c : h .action ≡ k .action = omega arith in
+    ap accepted (λ i. hit (d i) (c i))
+tells n b (accepted h) (refused m) f g e = let x = f h refl in absurd (omega arith)
+tells n b (refused m) (accepted k) f g e = let y = g k refl in absurd (omega arith)
+tells n b (refused m) (refused l) f g e = ap refused (omega arith)
+
+pub number-tells : (most : ℕ) → 2 * most ≤ refusalBase → (p q : Packet) (s t : List ℕ) → lookupNumber (lookup most p s) ≡ lookupNumber (lookup most q t)
+    → lookup most p s ≡ lookup most q t
+number-tells most b p q s t e = tells most b (lookup most p s) (lookup most q t) (lookup-small most p s) (lookup-small most q t) e

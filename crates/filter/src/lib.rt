@@ -9,16 +9,18 @@ use policy::number_of;
 use wire::count_at;
 use wire::rule_at;
 ghost use mathlib.Core.Path.{_≡_};
-ghost use mathlib.Core.List.{[], _∷_};
+ghost use mathlib.Core.Bool.{true, false, cond};
+ghost use Prim.Native.Nat.{_+_, _≤_, _<_};
 ghost use lib.ListN.{length, drop};
-ghost use Rattle.policy.specs.Fields.{countSize, limits};
+ghost use Rattle.policy.specs.Fields.{fields, countSize, limits};
+ghost use Rattle.policy.specs.Ranges.{range, within};
 ghost use Rattle.policy.specs.Values.{packetOf};
 ghost use Rattle.wire.specs.Records.{rulesIn};
 ghost use Rattle.filter.specs.Lookup.{lookFrom, listSize, lookup, lookupNumber};
 ghost use Rattle.filter.specs.Verdicts.{verdict};
 
 // For C a refusal is this and its number.
-const REFUSAL_BASE: u32 = 65536;
+pub const REFUSAL_BASE: u32 = 65536;
 
 // The rule that decides, or the refusal.
 pub enum Verdict {
@@ -26,7 +28,33 @@ pub enum Verdict {
     Refused(Refusal),
 }
 
-// The rules of a list of so many, one after another: a field outside its range ends a rule.
+// 1 for a value in its range and 0 for one outside, by one compare: what is below low wraps round to the highest numbers.
+fn count_within(x: u32, low: u32, high: u32) -> usize
+    requires { ⌜ low ≤ high ⌝ }
+    ensures { λ r. ⌜ r ≡ cond (within x (range low high)) 1 0 ⌝ }
+{
+    if std::num::wrapping_sub_u32(x, low) <= high - low {
+        return 1;
+    }
+    0
+}
+
+// Whether a rule with a field outside its range is left after field k: at the first field or at the last. Between them there is no
+// branch, since the machine can't foretell in which field a rule misses.
+fn is_left(k: usize, fitting: usize) -> bool
+    requires { ⌜ k < fields ⌝ }
+    ensures { λ r. ⌜ (r ≡ true → fitting ≤ k) × (r ≡ false → k + 1 ≡ fields → k < fitting) ⌝ }
+{
+    if k < fitting {
+        return false;
+    }
+    if k == 0 {
+        return true;
+    }
+    k + 1 == FIELDS
+}
+
+// The rules of a list of so many, one after another: a field outside its range ends a rule, and the next is tried.
 fn scan(p: Packet, list: &[u8], count: usize) -> Verdict
     requires { ⌜ length (now list) ≡ listSize count ⌝ }
     ensures { λ r. ⌜ verdict r ≡ lookFrom 0 (packetOf p) (rulesIn count (drop countSize (now (list .entry)))) ⌝ }
@@ -38,11 +66,10 @@ fn scan(p: Packet, list: &[u8], count: usize) -> Verdict
             return Verdict::Refused(Refusal::RuleBad);
         }
         let bounds = r.bounds;
+        let mut fitting: usize = 0;
         for k in 0..FIELDS {
-            if values[k] < bounds.low_at(k) {
-                continue 'rules;
-            }
-            if bounds.high_at(k) < values[k] {
+            fitting += count_within(values[k], bounds.low_at(k), bounds.high_at(k));
+            if is_left(k, fitting) {
                 continue 'rules;
             }
         }
@@ -80,19 +107,11 @@ pub fn lookup(p: Packet, list: &[u8]) -> Verdict
     lookup_within(TOTAL_MOST, p, list)
 }
 
-#[no_mangle]
-pub extern "C" fn foldplover_lookup(
-    src: u32,
-    dst: u32,
-    sport: u32,
-    dport: u32,
-    proto: u32,
-    list: &[u8],
-) -> u32
-    ensures { λ r. ⌜ r ≡ lookupNumber (lookup (limits .total) (src ∷ dst ∷ sport ∷ dport ∷ proto ∷ []) (now (list .entry))) ⌝ }
+// The verdict as one number.
+pub fn lookup_number(p: Packet, list: &[u8]) -> u32
+    ensures { λ r. ⌜ r ≡ lookupNumber (lookup (limits .total) (packetOf p) (now (list .entry))) ⌝ }
 {
-    let values = [src, dst, sport, dport, proto];
-    match lookup(Packet { values }, list) {
+    match lookup(p, list) {
         Verdict::Decided { place, action } => 2 * (place as u32) + action,
         Verdict::Refused(f) => REFUSAL_BASE + number_of(f),
     }

@@ -7,17 +7,20 @@ use native.Mathlib.Omega.{arith}
 use lib.Dec.{leb, eqb}
 use lib.ListN.{length, take, drop, length-append, length-take, length-drop}
 use lib.Seq.{take-at, drop-at, length-take-le}
-use borrow.Author.Tests.{le-leb, eqb-true}
+use borrow.Author.Tests.{le-leb, eqb-true, eq-eqb}
+use Rattle.lists.proofs.Tests.{and-true}
 use Rattle.lists.specs.Lists.{Each}
 use Rattle.lists.proofs.Lists.{each-append, each-take, each-drop}
-use Rattle.policy.specs.Fields.{recordSize, Limits}
+use Rattle.policy.specs.Fields.{recordSize, Limits, limits}
 use Rattle.policy.specs.Rules.{Rule}
 use Rattle.policy.specs.Refusals.{Outcome, accepted, refused, test, andThen, unless, given, orElse}
 use Rattle.policy.specs.Move.{slotsOf, room, Order, Pair, moved, gateList, cellList, listRefusal, moveRefusal}
 use Rattle.policy.specs.Check.{checkRefusal}
-use Rattle.policy.specs.Edit.{Kind, out, put, changed, Edit, newOrder, placeFound, edited, changeRefusal, allDone}
+use Rattle.policy.specs.Edit.{Kind, out, put, changed, hasPlace, Edit, newOrder, placeFound, edited, changeRefusal, allDone}
 use Rattle.policy.proofs.Numbers.{orElse-zero, orElse-both, orElse-assoc}
 use Rattle.policy.proofs.Edits.{Accepted, move-accepted, edit-as-fresh, change-refuses-as-fresh}
+use Rattle.policy.specs.Demands.{DenyOnly}
+use Rattle.policy.proofs.Kept.{others-kept}
 use Rattle.policy.proofs.Checks.{moved-is-checked}
 use Rattle.policy.proofs.Demands.{move-holds}
 use Rattle.wire.specs.Numbers.{Byte}
@@ -29,10 +32,10 @@ use Rattle.sheet.specs.Orders.{orderIn, orderBytes, listIn}
 use Rattle.sheet.specs.Pairs.{pairIn, pairBytes, pairSize}
 use Rattle.sheet.proofs.Outcomes.{test-accepted, through, faultless}
 use Rattle.sheet.proofs.Orders.{ListFits, faultless-fits, order-back, order-faultless, order-written-back, list-back}
-use Rattle.sheet.proofs.Pairs.{pair-back}
+use Rattle.sheet.proofs.Pairs.{pair-back, pair-good}
 use Rattle.planner.specs.Calls.{planOf, moveOf, checkedOf, checkOf, written}
 use Rattle.planner.specs.Edits.{Asked, kindOf, editOf, wholeRecord, changeOf, editedOf}
-use Rattle.planner.specs.Demands.{DemandTwo, Held, held, after, edits, runCalls, ifTaken, taken, DemandThree, EditAsFresh}
+use Rattle.planner.specs.Demands.{DemandTwo, Held, held, after, edits, runCalls, ifTaken, taken, DemandThree, EditAsFresh, OthersAsBefore}
 use Rattle.planner.specs.declared.Change.{Change}
 use Rattle.planner.specs.declared.Change.the-variants.{Insert, Delete, Replace}
 use Rattle.planner.proofs.Good.{moved-good, pair-short, gate-list-good, cell-list-good}
@@ -212,3 +215,22 @@ module _ (lim : Limits) (small : Small lim) where
       go : (t : Bool) → ListFits (cond t (changed (a .place) (kindOf (a .change) (a .bytes)) (cond t (o .gate) (o .own))) (o .gate)) × ListFits (cond t (o .own) (changed (a .place) (kindOf (a .change) (a .bytes)) (cond t (o .gate) (o .own))))
       go true = (new (o .gate) (f .0 .rules) (omega (arith, faultless (lim .gate) (o .gate) (m .gate), small .gate)), f .1)
       go false = (f .0, new (o .own) (f .1 .rules) (omega (arith, faultless (lim .own) (o .own) (m .own), small .own)))
+
+  pub edit-keeps-others : (s : List ℕ) (a : Asked) (p q : Pair) → pairIn lim s ≡ accepted p → editedOf lim s a ≡ accepted q → a .list ≡ 0
+      → DenyOnly (a .place) (kindOf (a .change) (a .bytes)) (p .order .gate) → OthersAsBefore a p q
+  unfolding editedOf changeOf
+  edit-keeps-others s a p q r e g d =
+      let k : Kind = kindOf (a .change) (a .bytes) in
+      let i : eqb (a .list) 0 ≡ true = eq-eqb (a .list) 0 g in
+      let f = test-accepted (leb (a .list) 1 && placeFound (editOf a) (p .order)) 9 _ q (rw r at e) in
+      let w = test-accepted (wholeRecord (a .change) (a .bytes)) 3 _ q (f .1) in
+      let u = unless-is (changeRefusal lim (editOf a) p) (edited (editOf a) p) q (w .1) in
+      let h = and-true (leb (a .list) 1) (placeFound (editOf a) (p .order)) (f .0) in
+      record {
+        pair = sym (u .1) ∙ ap (λ (t : Bool). edited (record { inGate = t; place = a .place; kind = k }) p) i;
+        others = others-kept (a .place) k p (sym (ap (λ (t : Bool). hasPlace (a .place) k (cond t (p .order .gate) (p .order .own))) i) ∙ h .1) (pair-good lim s p r (small .share) .counted) d;
+      }
+
+-- The scope's own limits are such.
+pub limits-small : Small limits
+limits-small = record { gate = omega arith; own = omega arith; total = omega arith; one = omega arith; share = omega arith }

@@ -5,3 +5,4 @@ pub mod Drafting
 pub mod Planning
 pub mod Checking
 pub mod Listing
+pub mod Lengths

@@ -11,12 +11,13 @@ use Rattle.policy.specs.Rules.{Rule, drops, forwards}
 use Rattle.policy.specs.Cut.{anyHas}
 use Rattle.policy.specs.Refusals.{Outcome, accepted, refused}
 use Rattle.policy.specs.Move.{together, Order, Pair, moved, gateList, cellList}
-use Rattle.policy.specs.Edit.{Edit, newOrder, allDone}
+use Rattle.policy.specs.Edit.{Edit, newOrder, edited, allDone}
+use Rattle.policy.specs.Demands.{inGateAt, OthersKept}
 use Rattle.sheet.specs.Sections.{sectionBytes}
 use Rattle.sheet.specs.Orders.{orderIn, orderBytes, listIn}
 use Rattle.sheet.specs.Pairs.{pairIn, pairBytes, pairSize}
 use Rattle.planner.specs.Calls.{moveOf, checkOf, written, lengthOf}
-use Rattle.planner.specs.Edits.{Asked, editOf, editedOf}
+use Rattle.planner.specs.Edits.{Asked, kindOf, editOf, editedOf}
 
 -- Demand 2 of an order sheet's bytes that a move accepts with the pair p. Its lists o are those that the bytes say, and say
 -- the same bytes; the sheet written is read as p, and passes check; its two lists, read from their bytes, forward a packet
@@ -74,3 +75,9 @@ pub record DemandThree (lim : Limits) (out : List ℕ) (o : Order) (l : List Ask
 -- edited lists is, with the same number, and otherwise gives the same pair.
 pub record EditAsFresh (lim : Limits) (out : List ℕ) (o : Order) (a : Asked) : Type 0 where
   pub same : edits lim a (held lim out (moved o)) ≡ moveOf lim (orderBytes (newOrder (editOf a) o))
+
+-- Demand 3, other rules: of any pair sheet that reads, stale ones too, an accepted edit of A that takes out and puts in no allow
+-- gives the edited pair, and every other deny rule has the group that it had.
+pub record OthersAsBefore (a : Asked) (p q : Pair) : Type 0 where
+  pub pair : q ≡ edited (inGateAt (a .place) (kindOf (a .change) (a .bytes))) p
+  pub others : OthersKept (a .place) (kindOf (a .change) (a .bytes)) p

@@ -1,6 +1,7 @@
 pub mod Numbers
 pub mod Values
 pub mod Cuts
+pub mod Rest
 pub mod Groups
 pub mod Moves
 pub mod Proper

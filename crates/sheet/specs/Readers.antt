@@ -1,4 +1,5 @@
--- What the code's readers answer, as the definitions have it, and where the parts lie in the bytes. Assumes nothing.
+-- What the code's readers answer, as the definitions have it, and where the parts lie in the bytes (01, Sheets).
+-- Assumes nothing.
 use mathlib.Core.Path.{_≡_}
 use mathlib.Core.List.{List, [], _∷_}
 use Prim.Native.Nat.{ℕ, zero, suc, _+_, _*_, _≤_}
@@ -63,7 +64,7 @@ pub record ListRead (most : ℕ) (s : List ℕ) (r : Section) : Type 0 where
   pub says : listHeard s r ≡ listIn most s
   pub place : ListPlaced most s r
 
--- Sections A and B, which every sheet begins with, and the bytes behind them.
+-- Sections A and B, which every sheet begins with, and the bytes behind them: B begins wherever A ends.
 unfoldable pub listsIn : Limits → List ℕ → Outcome (Reading Order)
 listsIn lim s =
     andThen (section (lim .gate) s)

@@ -194,6 +194,7 @@ fn read_lists(s: &[u8]) -> Lists
     }
 }
 
+// An order sheet: A and B, and nothing behind them.
 pub fn read_order(s: &[u8]) -> OrderParts
     ensures { λ r. ⌜ OrderRead (now (s .entry)) r ⌝ }
 {

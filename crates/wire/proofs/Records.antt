@@ -2,7 +2,7 @@
 -- one after another. Assumes nothing.
 use mathlib.Core.Path.{_≡_, refl, ap, sym}
 use mathlib.Core.List.{List, [], _∷_, _++_, map, append-assoc}
-use mathlib.Core.Bool.{Bool, true, false}
+use mathlib.Core.Bool.{Bool, true, false≢true}
 use Prim.Native.Nat.{ℕ, suc, _+_, _*_, _-_, _^_, _<_, _≤_}
 use native.Mathlib.Omega.{arith}
 use lib.Dec.{eqb, leb}
@@ -14,6 +14,7 @@ use Rattle.lists.proofs.Tests.{and-true}
 use Rattle.policy.specs.Fields.{Field, fieldTable, widths, highest, sizeOf, boxSize, actionSize, recordSize}
 use Rattle.policy.specs.Ranges.{Region, everyField, properRange, proper}
 use Rattle.policy.specs.Rules.{Rule, sound}
+use Rattle.policy.proofs.Moves.{rule-proper}
 use Rattle.wire.specs.Numbers.{numberBytes, numberIn, Byte}
 use Rattle.wire.specs.Records.{rangesBytes, rangesIn, boxBytes, boxIn, recordBytes, ruleIn, boxesBytes, boxesIn, recordsBytes, rulesIn, Fits}
 use Rattle.wire.proofs.Numbers.{numberBytes-length, number-back, number-bound, bytes-back, bytes-take, bytes-drop}
@@ -79,14 +80,11 @@ highestOf f = f .highest
 abbrev widthOf : Field → ℕ
 widthOf f = f .width
 
-false-never : false ≡ true → ⊥
-false-never h = let z : _≡_ {A = ℕ} 0 1 = cc in omega arith
-
 rows-fit : (t : List Field) (b : Region) → every exact t ≡ true → proper (map highestOf t) b ≡ true → Fits (map widthOf t) b
 unfolding every everyField Fits
 rows-fit [] [] e h = tt
-rows-fit [] (r ∷ b) e h = false-never h
-rows-fit (f ∷ t) [] e h = false-never h
+rows-fit [] (r ∷ b) e h = absurd (false≢true h)
+rows-fit (f ∷ t) [] e h = absurd (false≢true h)
 rows-fit (f ∷ t) (r ∷ b) e h =
     let d = and-true (exact f) (every exact t) e in
     let g = and-true (properRange (f .highest) r) (proper (map highestOf t) b) h in
@@ -109,12 +107,10 @@ unfolding sound
 sound-action r h = leb-true (r .action) 1 (and-true (proper highest (r .region)) (leb (r .action) 1) h .1)
 
 pub sound-fits : (r : Rule) → sound r ≡ true → RuleFits r
-unfolding sound
 sound-fits r h =
     let l = sound-action r h in
-    (proper-fits (r .region) (and-true (proper highest (r .region)) (leb (r .action) 1) h .0), omega arith)
+    (proper-fits (r .region) (rule-proper r h), omega arith)
 
--- One box.
 -- What is read from bytes fits them.
 rangesIn-fits : (ws s : List ℕ) → sizeOf ws ≤ length s → Each Byte s → Fits ws (rangesIn ws s)
 unfolding Fits rangesIn

@@ -1,0 +1,66 @@
+/* Two straight C versions of the lookup, for bench/run: the same answers as foldplover_lookup. */
+#include <stddef.h>
+#include <stdint.h>
+
+enum { FIELDS = 5, RECORD = 27, COUNT = 2, MOST = 1024 };
+
+static uint32_t refusal(uint32_t n) { return 65536 + n; }
+
+/* The count, or 0 and the refusal in *answer. */
+static size_t head(const uint8_t *list, size_t length, uint32_t *answer) {
+    *answer = refusal(3);
+    if (length < COUNT) return 0;
+    size_t count = (size_t)list[0] << 8 | list[1];
+    *answer = refusal(2);
+    if (count < 1 || count > MOST) return 0;
+    *answer = refusal(3);
+    if (length != COUNT + RECORD * count) return 0;
+    return count;
+}
+
+static uint32_t four(const uint8_t *s) { return (uint32_t)s[0] << 24 | (uint32_t)s[1] << 16 | (uint32_t)s[2] << 8 | s[3]; }
+
+static uint32_t two(const uint8_t *s) { return (uint32_t)s[0] << 8 | s[1]; }
+
+/* Loops over the fields, left at the first that is outside. */
+uint32_t lookup_loops(uint32_t src, uint32_t dst, uint32_t sport, uint32_t dport, uint32_t proto, const uint8_t *list, size_t length) {
+    const uint32_t packet[FIELDS] = {src, dst, sport, dport, proto};
+    uint32_t answer;
+    size_t count = head(list, length, &answer);
+    if (count == 0) return answer;
+    const uint8_t *s = list + COUNT;
+    for (size_t i = 0; i < count; i++, s += RECORD) {
+        const uint32_t low[FIELDS] = {four(s), four(s + 8), two(s + 16), two(s + 20), s[24]};
+        const uint32_t high[FIELDS] = {four(s + 4), four(s + 12), two(s + 18), two(s + 22), s[25]};
+        const uint32_t action = s[26];
+        for (int k = 0; k < FIELDS; k++)
+            if (low[k] > high[k]) return refusal(4);
+        if (action > 1) return refusal(4);
+        int k = 0;
+        for (; k < FIELDS; k++)
+            if (packet[k] < low[k] || packet[k] > high[k]) break;
+        if (k == FIELDS) return 2 * (uint32_t)i + action;
+    }
+    return refusal(5);
+}
+
+/* Every field by hand. */
+uint32_t lookup_straight(uint32_t src, uint32_t dst, uint32_t sport, uint32_t dport, uint32_t proto, const uint8_t *list, size_t length) {
+    uint32_t answer;
+    size_t count = head(list, length, &answer);
+    if (count == 0) return answer;
+    const uint8_t *s = list + COUNT;
+    for (size_t i = 0; i < count; i++, s += RECORD) {
+        uint32_t low1 = four(s), high1 = four(s + 4), low2 = four(s + 8), high2 = four(s + 12);
+        uint32_t low3 = two(s + 16), high3 = two(s + 18), low4 = two(s + 20), high4 = two(s + 22);
+        uint32_t low5 = s[24], high5 = s[25], action = s[26];
+        if (low1 > high1 || low2 > high2 || low3 > high3 || low4 > high4 || low5 > high5 || action > 1) return refusal(4);
+        if (src < low1 || src > high1) continue;
+        if (dst < low2 || dst > high2) continue;
+        if (sport < low3 || sport > high3) continue;
+        if (dport < low4 || dport > high4) continue;
+        if (proto < low5 || proto > high5) continue;
+        return 2 * (uint32_t)i + action;
+    }
+    return refusal(5);
+}

@@ -1,0 +1,34 @@
+-- An answer and its number: what each case of the code says, and that the number tells the answer. Assumes nothing.
+use mathlib.Core.Path.{_≡_, refl, ap, sym, subst, _∙_}
+use Prim.Native.Nat.{ℕ, _+_, _<_}
+use native.Mathlib.Omega.{arith}
+use Rattle.policy.specs.Refusals.{Outcome, accepted, refused, numberOf, said}
+use Rattle.policy.specs.declared.Answer.{Answer}
+use Rattle.policy.specs.declared.Answer.the-variants.{Length, Refused}
+use Rattle.policy.specs.declared.Refusal.{Refusal}
+use Rattle.policy.proofs.Answers.{said-once}
+use Rattle.filter.specs.Lookup.{refusalBase}
+use Rattle.foldplover.specs.Coded.{coded, Plain, Coded}
+
+module _ (a : Answer) where
+  pub length-small : Plain (said a) → (n : ℕ) → a ≡ Length n → n < refusalBase
+  length-small h n e = subst (λ (q : Answer). Plain (said q)) e h
+
+  pub refused-number : (f : Refusal) (k : ℕ) → a ≡ Refused f → k ≡ numberOf f → refusalBase + k ≡ coded (said a)
+  refused-number f k e h = rw h (sym (ap (λ (q : Answer). coded (said q)) e))
+
+-- The number tells the outcome: no two have the same.
+tells : (x y : Outcome ℕ) → Plain x → Plain y → coded x ≡ coded y → x ≡ y
+tells (accepted n) (accepted m) p q e = ap accepted e
+tells (accepted n) (refused k) p q e = absurd (omega arith)
+tells (refused j) (accepted m) p q e = absurd (omega arith)
+tells (refused j) (refused k) p q e = ap refused (omega arith)
+
+-- Two outcomes of calls for C with the same number had the same answer; and where the promises of the calls below allow one
+-- answer only, there is one number only.
+module _ {P Q : Answer → Type 0} {n m : ℕ} (x : Coded P n) (y : Coded Q m) where
+  pub number-tells : n ≡ m → x .answer ≡ y .answer
+  number-tells e = said-once (x .answer) (y .answer) (tells (said (x .answer)) (said (y .answer)) (x .plain) (y .plain) (sym (x .number) ∙ (e ∙ y .number)))
+
+  pub coded-once : ((q s : Answer) → P q → Q s → q ≡ s) → n ≡ m
+  coded-once once = x .number ∙ (ap (λ (q : Answer). coded (said q)) (once (x .answer) (y .answer) (x .below) (y .below)) ∙ sym (y .number))

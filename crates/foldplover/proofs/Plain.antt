@@ -1,0 +1,71 @@
+-- What each call below answers is below every refusal's number: a length is that of what was written, and that is within the
+-- size that the call asks for. Assumes nothing.
+use mathlib.Core.Path.{_≡_, refl, ap, sym, subst, _∙_}
+use mathlib.Core.List.{List}
+use mathlib.Core.Bool.{Bool, _&&_}
+use Prim.Native.Nat.{ℕ, _<_}
+use native.Mathlib.Omega.{arith}
+use lib.Dec.{leb}
+use lib.ListN.{length}
+use borrow.Author.Tests.{leb-true}
+use Rattle.policy.specs.Fields.{limits, recordSize}
+use Rattle.policy.specs.Rules.{Rule}
+use Rattle.policy.specs.Refusals.{Outcome, accepted, refused, test, said}
+use Rattle.policy.specs.Move.{Order}
+use Rattle.policy.specs.declared.Answer.{Answer}
+use Rattle.policy.specs.declared.Answer.the-variants.{Length, Refused}
+use Rattle.policy.proofs.Answers.{test-accepted}
+use Rattle.wire.specs.RecordCalls.{readingOf, writingOf, answered, RecordRead, RecordWritten}
+use Rattle.sheet.specs.Sections.{sectionBytes}
+use Rattle.sheet.specs.Orders.{orderBytes, orderIn, gateSize, ownSize, orderSize}
+use Rattle.sheet.specs.Split.{splitOf, splitSaid, splitGate, Split}
+use Rattle.sheet.specs.Join.{joinOf, joinSaid, joinSheet, Join}
+use Rattle.planner.specs.Calls.{roomFor, Call}
+use Rattle.planner.proofs.Lengths.{filled-within, call-length}
+use Rattle.filter.specs.Lookup.{refusalBase}
+use Rattle.foldplover.specs.Coded.{Plain}
+
+-- A call that writes into a buffer of a size below every refusal's number.
+pub call-plain :
+    {A : Type 0} (bytes : A → List ℕ) (size : ℕ) (b : Bool) (x : Outcome A) (out : List ℕ) {w out′ w′ : List ℕ} (q : Answer)
+    → Call bytes size (roomFor size out && b) x out w q out′ w′ → length out′ ≡ length out → size < refusalBase → Plain (said q)
+call-plain bytes size b x out (Length n) c e h = let k = call-length bytes size b x out c e n refl in omega arith
+call-plain bytes size b x out (Refused f) c e h = tt
+
+-- The record calls.
+answered-plain : (n : ℕ) → n < refusalBase → (x : Outcome Rule) → Plain (answered n x)
+unfolding answered
+answered-plain n h (accepted r) = h
+answered-plain n h (refused k) = tt
+
+pub read-plain : {s ns ns′ : List ℕ} {q : Answer} → RecordRead s ns q ns′ → Plain (said q)
+read-plain {s = s} {ns = ns} x = subst Plain (sym (x .answer)) (answered-plain 0 (omega arith) (readingOf s ns))
+
+pub written-plain : {ns out out′ : List ℕ} {q : Answer} → RecordWritten ns out q out′ → Plain (said q)
+written-plain {ns = ns} {out = out} x = subst Plain (sym (x .answer)) (answered-plain recordSize (omega arith) (writingOf ns out))
+
+-- Split: the A list is within its buffer.
+split-small : (s a b : List ℕ) (x : Outcome Order) → splitOf limits s a b ≡ x → length (splitGate limits a x) ≡ length a → Plain (splitSaid x)
+unfolding splitOf splitGate splitSaid
+split-small s a b (accepted o) e h =
+    let t = test-accepted (leb (gateSize limits) (length a)) 1 (test (leb (ownSize limits) (length b)) 1 (orderIn limits s)) e in
+    let w = filled-within (gateSize limits) a (sectionBytes (o .gate)) (leb-true (gateSize limits) (length a) (t .0)) h in
+    omega arith
+split-small s a b (refused n) e h = tt
+
+pub split-plain : {s a b a′ b′ : List ℕ} {q : Answer} → Split s a b q a′ b′ → length a′ ≡ length a → Plain (said q)
+split-plain {s = s} {a = a} {b = b} x e =
+    subst Plain (sym (x .answer)) (split-small s a b (splitOf limits s a b) refl (sym (ap length (x .gate)) ∙ e))
+
+-- Join: the order sheet is within its buffer.
+join-small : (a b out : List ℕ) (x : Outcome Order) → joinOf limits a b out ≡ x → length (joinSheet limits out x) ≡ length out → Plain (joinSaid x)
+unfolding joinOf joinSheet joinSaid
+join-small a b out (accepted o) e h =
+    let t = test-accepted (leb (orderSize limits) (length out)) 1 _ e in
+    let w = filled-within (orderSize limits) out (orderBytes o) (leb-true (orderSize limits) (length out) (t .0)) h in
+    omega arith
+join-small a b out (refused n) e h = tt
+
+pub join-plain : {a b out out′ : List ℕ} {q : Answer} → Join a b out q out′ → length out′ ≡ length out → Plain (said q)
+join-plain {a = a} {b = b} {out = out} x e =
+    subst Plain (sym (x .answer)) (join-small a b out (joinOf limits a b out) refl (sym (ap length (x .sheet)) ∙ e))

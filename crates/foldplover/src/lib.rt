@@ -1,0 +1,75 @@
+// The calls for C. Each hands over to the call of the crate below, and turns its answer into one number.
+use filter::REFUSAL_BASE;
+use policy::Answer;
+use policy::Packet;
+use policy::number_of;
+ghost use mathlib.Core.Path.{_≡_};
+ghost use mathlib.Core.List.{[], _∷_};
+ghost use Rattle.policy.specs.Fields.{limits};
+ghost use Rattle.policy.specs.Refusals.{said};
+ghost use Rattle.wire.specs.RecordCalls.{RecordRead, RecordWritten};
+ghost use Rattle.sheet.specs.Split.{Split};
+ghost use Rattle.sheet.specs.Join.{Join};
+ghost use Rattle.planner.specs.Calls.{Moves};
+ghost use Rattle.filter.specs.Lookup.{lookup, lookupNumber};
+ghost use Rattle.foldplover.specs.Coded.{coded, Plain, Coded};
+
+fn answer_number(a: Answer) -> u32
+    requires { ⌜ Plain (said a) ⌝ }
+    ensures { λ r. ⌜ r ≡ coded (said a) ⌝ }
+{
+    match a {
+        Answer::Length(n) => n as u32,
+        Answer::Refused(f) => REFUSAL_BASE + number_of(f),
+    }
+}
+
+#[no_mangle]
+pub extern "C" fn foldplover_move(order: &[u8], sheet: &mut [u8], work: &mut [u8]) -> u32
+    ensures { λ r. ⌜ Coded (λ q. Moves (now (order .entry)) (now (sheet .entry)) (now (work .entry)) q (now (sheet .exit)) (now (work .exit))) r ⌝ }
+{
+    answer_number(planner::move_order(order, sheet, work))
+}
+
+#[no_mangle]
+pub extern "C" fn foldplover_split(order: &[u8], a: &mut [u8], b: &mut [u8]) -> u32
+    ensures { λ r. ⌜ Coded (λ q. Split (now (order .entry)) (now (a .entry)) (now (b .entry)) q (now (a .exit)) (now (b .exit))) r ⌝ }
+{
+    answer_number(sheet::split(order, a, b))
+}
+
+#[no_mangle]
+pub extern "C" fn foldplover_join(a: &[u8], b: &[u8], order: &mut [u8]) -> u32
+    ensures { λ r. ⌜ Coded (λ q. Join (now (a .entry)) (now (b .entry)) (now (order .entry)) q (now (order .exit))) r ⌝ }
+{
+    answer_number(sheet::join(a, b, order))
+}
+
+#[no_mangle]
+pub extern "C" fn foldplover_rule(bytes: &[u8], numbers: &mut [u32]) -> u32
+    ensures { λ r. ⌜ Coded (λ q. RecordRead (now (bytes .entry)) (now (numbers .entry)) q (now (numbers .exit))) r ⌝ }
+{
+    answer_number(wire::record::rule(bytes, numbers))
+}
+
+#[no_mangle]
+pub extern "C" fn foldplover_record(numbers: &[u32], bytes: &mut [u8]) -> u32
+    ensures { λ r. ⌜ Coded (λ q. RecordWritten (now (numbers .entry)) (now (bytes .entry)) q (now (bytes .exit))) r ⌝ }
+{
+    answer_number(wire::record::record(numbers, bytes))
+}
+
+#[no_mangle]
+pub extern "C" fn foldplover_lookup(
+    src: u32,
+    dst: u32,
+    sport: u32,
+    dport: u32,
+    proto: u32,
+    list: &[u8],
+) -> u32
+    ensures { λ r. ⌜ r ≡ lookupNumber (lookup (limits .total) (src ∷ dst ∷ sport ∷ dport ∷ proto ∷ []) (now (list .entry))) ⌝ }
+{
+    let values = [src, dst, sport, dport, proto];
+    filter::lookup_number(Packet { values }, list)
+}

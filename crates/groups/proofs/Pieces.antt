@@ -1,0 +1,101 @@
+-- Laws on the pieces that stand at the front of the work buffer. Assumes nothing.
+use mathlib.Core.Path.{_≡_, refl, ap, sym, _∙_}
+use mathlib.Core.List.{List, [], _∷_, _++_, append-assoc}
+use Prim.Native.Nat.{ℕ, zero, suc, _+_, _-_, _*_, _<_, _≤_}
+use native.Mathlib.Omega.{arith}
+use native.Mathlib.Numerals.{add-one}
+use lib.ListN.{length, take, drop, take-append-drop}
+use lib.Seq.{take-add, take-at, take-nil, take-take, drop-at, drop-cons, length-take-le}
+use Rattle.lists.specs.Lists.{Each}
+use Rattle.lists.proofs.Lists.{each-imp}
+use Rattle.policy.specs.Fields.{widths, boxSize}
+use Rattle.policy.specs.Ranges.{Region}
+use Rattle.wire.specs.Records.{boxBytes, boxIn, boxesBytes, boxesIn, Fits}
+use Rattle.wire.proofs.Records.{proper-fits, boxBytes-length, box-back, boxesBytes-length, boxesIn-length, box-in-place}
+use Rattle.groups.specs.Stores.{Proper, Stands}
+
+-- What holds of each element of two lists put together holds of each of the two.
+each-parts : {A : Type 0} (P : A → Type 0) (l k : List A) → Each P (l ++ k) → Each P l × Each P k
+unfolding Each
+each-parts P [] k h = (tt, h)
+each-parts P (a ∷ l) k h = let r = each-parts P l k (h .1) in ((h .0, r .0), r .1)
+
+drop-take : {A : Type 0} (n m : ℕ) (l : List A) → drop n (take (n + m) l) ≡ take m (drop n l)
+drop-take zero m l = let e : 0 + m ≡ m = omega arith in ap (λ (k : ℕ). take k l) e
+drop-take (suc n) m [] = let e : suc n + m ≡ suc (n + m) = omega arith in rw (e, take-nil)
+drop-take (suc n) m (a ∷ l) = let e : suc n + m ≡ suc (n + m) = omega arith in rw e (drop-take n m l)
+
+pub boxes-bytes : (l k : List Region) → boxesBytes (l ++ k) ≡ boxesBytes l ++ boxesBytes k
+unfolding boxesBytes
+boxes-bytes [] k = refl
+boxes-bytes (b ∷ l) k = rw (boxes-bytes l k) (sym (append-assoc (boxBytes b) (boxesBytes l) (boxesBytes k)))
+
+pub proper-all : (l : List Region) → Each Proper l → Each (Fits widths) l
+proper-all l h = each-imp Proper (Fits widths) l proper-fits h
+
+-- The pieces from place i on: the one there, and those behind it.
+pub boxes-next : (n i : ℕ) (s : List ℕ) → i < n → drop i (boxesIn n s) ≡ boxIn (drop (boxSize * i) s) ∷ drop (i + 1) (boxesIn n s)
+boxes-next n i s h = drop-cons (boxesIn n s) i [] (rw boxesIn-length h) ∙ rw (add-one, box-in-place i n s [] h)
+
+module _ {n : ℕ} {work : List ℕ} (st : Stands n work) (room : boxSize * n ≤ length work) where
+  module _ (i : ℕ) (h : i ≤ n) where
+    each-split : Each Proper (take i (boxesIn n work)) × Each Proper (drop i (boxesIn n work))
+    each-split = each-parts Proper (take i (boxesIn n work)) (drop i (boxesIn n work)) (rw (take-append-drop i (boxesIn n work)) (st .each))
+
+    pub each-from : Each Proper (drop i (boxesIn n work))
+    each-from = each-split .1
+
+    -- The bytes of the pieces before place i, and of those from there on.
+    parts : take (boxSize * i) work ++ take (boxSize * (n - i)) (drop (boxSize * i) work) ≡ boxesBytes (take i (boxesIn n work)) ++ boxesBytes (drop i (boxesIn n work))
+    parts =
+        let e : boxSize * n ≡ boxSize * i + boxSize * (n - i) = omega arith in
+        sym (take-add (boxSize * i) (boxSize * (n - i)) work)
+        ∙ (ap (λ (k : ℕ). take k work) (sym e) ∙ (st .written ∙ (ap boxesBytes (sym (take-append-drop i (boxesIn n work))) ∙ boxes-bytes (take i (boxesIn n work)) (drop i (boxesIn n work)))))
+
+    taken-length : length (take (boxSize * i) work) ≡ boxSize * i
+    taken-length = length-take-le (boxSize * i) work (omega arith)
+
+    before-length : length (boxesBytes (take i (boxesIn n work))) ≡ boxSize * i
+    before-length =
+        boxesBytes-length (take i (boxesIn n work)) (proper-all (take i (boxesIn n work)) (each-split .0))
+        ∙ ap (λ (k : ℕ). boxSize * k) (length-take-le i (boxesIn n work) (rw boxesIn-length h))
+
+    pub bytes-before : take (boxSize * i) work ≡ boxesBytes (take i (boxesIn n work))
+    bytes-before =
+        sym (take-at (take (boxSize * i) work) (take (boxSize * (n - i)) (drop (boxSize * i) work)) (boxSize * i) taken-length)
+        ∙ (ap (take (boxSize * i)) parts ∙ take-at (boxesBytes (take i (boxesIn n work))) (boxesBytes (drop i (boxesIn n work))) (boxSize * i) before-length)
+
+    bytes-from : take (boxSize * (n - i)) (drop (boxSize * i) work) ≡ boxesBytes (drop i (boxesIn n work))
+    bytes-from =
+        sym (drop-at (take (boxSize * i) work) (take (boxSize * (n - i)) (drop (boxSize * i) work)) (boxSize * i) taken-length)
+        ∙ (ap (drop (boxSize * i)) parts ∙ drop-at (boxesBytes (take i (boxesIn n work))) (boxesBytes (drop i (boxesIn n work))) (boxSize * i) before-length)
+
+  -- The piece at place i.
+  module _ (i : ℕ) (h : i < n) where
+    pub fits-at : Fits widths (boxIn (drop (boxSize * i) work))
+    unfolding Each
+    fits-at = proper-fits (boxIn (drop (boxSize * i) work)) ((rw (boxes-next n i work h) at (each-from i (omega arith))) .0)
+
+    bytes-at : take boxSize (drop (boxSize * i) work) ≡ boxBytes (boxIn (drop (boxSize * i) work))
+    unfolding boxesBytes
+    bytes-at =
+        let s : List ℕ = drop (boxSize * i) work in
+        sym (take-take boxSize (boxSize * (n - i)) s (omega arith))
+        ∙ (ap (take boxSize) (bytes-from i (omega arith) ∙ ap boxesBytes (boxes-next n i work h)) ∙ take-at (boxBytes (boxIn s)) (boxesBytes (drop (i + 1) (boxesIn n work))) boxSize (boxBytes-length (boxIn s) fits-at))
+
+    -- The same in a buffer that is alike up to some place behind the piece.
+    module _ (half : ℕ) (work′ : List ℕ) (alike : take half work′ ≡ take half work) (inside : boxSize * i + boxSize ≤ half) where
+      bytes-alike : take boxSize (drop (boxSize * i) work′) ≡ take boxSize (drop (boxSize * i) work)
+      bytes-alike =
+          let q : (w : List ℕ) → take boxSize (drop (boxSize * i) w) ≡ drop (boxSize * i) (take (boxSize * i + boxSize) (take half w)) =
+          λ w. sym (ap (drop (boxSize * i)) (take-take (boxSize * i + boxSize) half w inside) ∙ drop-take (boxSize * i) boxSize w) in
+          q work′ ∙ (ap (λ (w : List ℕ). drop (boxSize * i) (take (boxSize * i + boxSize) w)) alike ∙ sym (q work))
+
+      pub piece-alike : boxIn (drop (boxSize * i) work′) ≡ boxIn (drop (boxSize * i) work)
+      piece-alike =
+          let b : Region = boxIn (drop (boxSize * i) work) in
+          ap boxIn (sym (take-append-drop boxSize (drop (boxSize * i) work′)) ∙ ap (λ (s : List ℕ). s ++ drop boxSize (drop (boxSize * i) work′)) (bytes-alike ∙ bytes-at))
+          ∙ box-back b (drop boxSize (drop (boxSize * i) work′)) fits-at
+
+      pub written-alike : take boxSize (drop (boxSize * i) work′) ≡ boxBytes (boxIn (drop (boxSize * i) work′))
+      written-alike = bytes-alike ∙ (bytes-at ∙ ap boxBytes (sym piece-alike))

@@ -1,0 +1,67 @@
+-- Pieces on the way to a group, in the two halves of the work buffer (01, Calls: two lists of 1,024 boxes).
+-- Assumes nothing.
+use mathlib.Core.Path.{_≡_}
+use mathlib.Core.List.{List, [], _∷_, _++_}
+use mathlib.Core.Bool.{true, cond}
+use Prim.Native.Nat.{ℕ, _+_, _-_, _*_, _≤_}
+use lib.Dec.{ltb}
+use lib.ListN.{length, take, drop, set}
+use lib.Seq.{sets}
+use Rattle.lists.specs.Lists.{Each}
+use Rattle.policy.specs.Fields.{fields, highest, boxSize, limits}
+use Rattle.policy.specs.Ranges.{range, Region, proper}
+use Rattle.policy.specs.Values.{rangeAt}
+use Rattle.policy.specs.Cut.{cutEach}
+use Rattle.wire.specs.Records.{boxBytes, boxesBytes, boxesIn}
+
+-- How many boxes a half holds, and as many pieces as one allow can leave of them.
+abbrev pub places : ℕ
+places = limits .pieces
+
+abbrev pub most : ℕ
+most = 2 * fields * places
+
+-- A box stored behind m others, in the half that begins at `half`; past the half's last place nothing is written.
+unfoldable pub storeOne : ℕ → List ℕ → ℕ → Region → List ℕ
+storeOne half work m b = cond (ltb m places) (sets work (half + boxSize * m) (boxBytes b)) work
+
+-- Boxes stored one after another.
+unfoldable pub store : ℕ → List ℕ → ℕ → List Region → List ℕ
+store half work m [] = work
+store half work m (b ∷ bs) = store half (storeOne half work m b) (m + 1) bs
+
+-- What storing leaves: the boxes counted on, those past the last place too.
+pub record Stored (half : ℕ) (work : List ℕ) (m : ℕ) (bs : List Region) (work′ : List ℕ) (r : ℕ) : Type 0 where
+  pub count : r ≡ m + length bs
+  pub bytes : work′ ≡ store half work m bs
+
+-- The part of b whose field k is below x, if any, and the part above x, if any.
+abbrev pub partBelow : Region → ℕ → ℕ → List Region
+partBelow b k x = cond (ltb (rangeAt b k .low) x) (set b k (range (rangeAt b k .low) (x - 1)) ∷ []) []
+
+abbrev pub partAbove : Region → ℕ → ℕ → List Region
+partAbove b k x = cond (ltb x (rangeAt b k .high)) (set b k (range (x + 1) (rangeAt b k .high)) ∷ []) []
+
+-- n pieces stand at the front: each is a box that number 4 lets pass, and its bytes are those of the box.
+abbrev pub Proper : Region → Type 0
+Proper b = proper highest b ≡ true
+
+pub record Stands (n : ℕ) (work : List ℕ) : Type 0 where
+  pub each : Each Proper (boxesIn n work)
+  pub written : take (boxSize * n) work ≡ boxesBytes (boxesIn n work)
+
+-- The first i of n pieces stay as they are when a is taken from all of them.
+pub record Untouched (n : ℕ) (work : List ℕ) (a : Region) (i : ℕ) : Type 0 where
+  pub upto : i ≤ n
+  pub left : cutEach (boxesIn n work) a ≡ take i (boxesIn n work) ++ cutEach (drop i (boxesIn n work)) a
+
+-- The bytes of the second half from one place up to another, at the same places of the first half.
+unfoldable pub copiedDown : ℕ → ℕ → ℕ → List ℕ → List ℕ
+copiedDown half from to work = take from work ++ (take (to - from) (drop (half + from) work) ++ drop to work)
+
+-- What taking an allow from all pieces leaves: how many there are, and unless they are too many, they stand at the front.
+pub record Taken (half : ℕ) (work : List ℕ) (n : ℕ) (a : Region) (work′ : List ℕ) (r : ℕ) : Type 0 where
+  pub count : r ≡ length (cutEach (boxesIn n work) a)
+  pub pieces : r ≤ places → boxesIn r work′ ≡ cutEach (boxesIn n work) a
+  pub bytes : r ≤ places → take (boxSize * r) work′ ≡ boxesBytes (cutEach (boxesIn n work) a)
+  pub beyond : drop (half + half) work′ ≡ drop (half + half) work
