@@ -61,7 +61,7 @@ same-length c = search needs
 
 returns : tie.Need-returns Inv-loop μ-loop
 returns c =
-    working-over (c .before .before .before .before .before .before .before .before .before .loop .inv) (c .before .before .before .before .before .before .before .before .loop-test .taken) (c .before .before .before .before .before .before .before .rule-at .ensures) (c .before .before .before .before .before .if1 .taken) (c .before .before .before .take-allow .ensures) (c .if2 .taken) (c .before .before .before .before .before .before .before .before .before .before .before .before .before .before .before .before .before .args .work .now) refl (behind (c .before .before .before .before .before .before .before .before .before))
+    working-over (c .before .before .before .before .before .before .before .before .before .loop .inv) (omega (arith, c .before .before .before .before .before .before .before .before .loop-test .taken)) (c .before .before .before .before .before .before .before .rule-at .ensures) (c .before .before .before .before .before .if1 .taken) (c .before .before .before .take-allow .ensures) (omega (arith, c .if2 .taken)) (c .before .before .before .before .before .before .before .before .before .before .before .before .before .before .before .before .before .args .work .now) refl (behind (c .before .before .before .before .before .before .before .before .before))
 
 add-j : tie.Need-add-j Inv-loop μ-loop
 add-j c = search needs
