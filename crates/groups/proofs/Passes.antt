@@ -2,31 +2,32 @@
 -- Assumes nothing.
 use mathlib.Core.Path.{_≡_, refl, ap, sym, _∙_}
 use mathlib.Core.List.{List, [], _∷_, _++_, append-assoc}
-use Prim.Native.Nat.{ℕ, suc, _+_, _-_, _*_, _<_, _≤_}
+use Prim.Native.Nat.{ℕ, _+_, _*_, _<_, _≤_}
 use native.Mathlib.Omega.{arith}
-use lib.ListN.{length, take, drop}
+use native.Mathlib.Numerals.{add-one}
+use lib.ListN.{length, take, drop, drop-of-length-le}
+use lib.Seq.{take-suc}
 use Rattle.policy.specs.Fields.{fields, widths, boxSize}
 use Rattle.policy.specs.Ranges.{Region}
 use Rattle.policy.specs.Cut.{cut, cutEach}
 use Rattle.policy.proofs.Cuts.{cut-few}
 use Rattle.wire.specs.Records.{boxIn, boxesIn}
-use Rattle.wire.proofs.Records.{fits-length}
+use Rattle.wire.proofs.Records.{fits-length, boxesIn-length, box-in-place}
 use Rattle.groups.specs.Stores.{Stored, Stands, Untouched}
 use Rattle.groups.proofs.Stores.{length-store, take-store, stored-then, stored-none}
-use Rattle.groups.proofs.Pieces.{boxes-split, boxes-next, fits-at, piece-alike}
+use Rattle.groups.proofs.Pieces.{boxes-next, fits-at, piece-alike}
 
 pub untouched-first : (n : ℕ) (work : List ℕ) (a : Region) → Untouched n work a 0
-unfolding boxesIn
-untouched-first n work a = let e : n - 0 ≡ n = omega arith in record { upto = omega arith; left = rw e }
+untouched-first n work a = record { upto = omega arith; left = refl }
 
 pub untouched-next : {n : ℕ} {work : List ℕ} {a : Region} {i : ℕ} (d : Region) → Untouched n work a i → i < n → d ≡ boxIn (drop (boxSize * i) work) → cut d a ≡ d ∷ [] → Untouched n work a (i + 1)
-unfolding cutEach boxesIn
+unfolding cutEach
 untouched-next {n} {work} {a} {i} d g h e f =
-    let s : List ℕ = drop (boxSize * i) work in
-    let later : List Region = boxesIn (n - (i + 1)) (drop (boxSize * (i + 1)) work) in
+    let l : List Region = boxesIn n work in
+    let t : take (i + 1) l ≡ take i l ++ (d ∷ []) = ap (λ (k : ℕ). take k l) (add-one i) ∙ (take-suc l i [] (rw boxesIn-length h) ∙ rw (box-in-place i n work [] h, e)) in
     record {
       upto = omega arith;
-      left = g .left ∙ rw (boxes-next n i work h, ← e, f, boxes-split i 1 work, ← e) (sym (append-assoc (boxesIn i work) (d ∷ []) (cutEach later a)));
+      left = g .left ∙ rw (boxes-next n i work h, ← e, f, t) (sym (append-assoc (take i l) (d ∷ []) (cutEach (drop (i + 1) l) a)));
     }
 
 -- At piece i the pieces from `first` to there are done, and whatever is left of the later ones, stored behind the m boxes
@@ -37,8 +38,8 @@ pub record Passing (half : ℕ) (work₀ : List ℕ) (first n : ℕ) (a : Region
   pub few : m ≤ 2 * fields * i
   pub wide : length work ≡ length work₀
   pub alike : take half work ≡ take half work₀
-  pub onward : (last : List ℕ) (r : ℕ) → Stored half work m (cutEach (boxesIn (n - i) (drop (boxSize * i) work₀)) a) last r
-      → Stored half work₀ first (cutEach (boxesIn (n - first) (drop (boxSize * first) work₀)) a) last r
+  pub onward : (last : List ℕ) (r : ℕ) → Stored half work m (cutEach (drop i (boxesIn n work₀)) a) last r
+      → Stored half work₀ first (cutEach (drop first (boxesIn n work₀)) a) last r
 
 pub passing-first : (half : ℕ) (work : List ℕ) (first n : ℕ) (a : Region) → first ≤ n → Passing half work first n a work first first
 passing-first half work first n a h = record {
@@ -69,6 +70,8 @@ module _ {half : ℕ} {work₀ : List ℕ} {first n : ℕ} {a : Region} {work : 
         onward = λ l q z. g .onward l q (rw (boxes-next n i work₀ t) (stored-then s′ z));
       }
 
-  pub passing-last : n ≤ i → Stored half work₀ first (cutEach (boxesIn (n - first) (drop (boxSize * first) work₀)) a) work m
-  unfolding cutEach boxesIn
-  passing-last h = let e : n - i ≡ 0 = omega arith in g .onward work m (rw e (stored-none half work m))
+  pub passing-last : n ≤ i → Stored half work₀ first (cutEach (drop first (boxesIn n work₀)) a) work m
+  unfolding cutEach
+  passing-last h =
+      let l : length (boxesIn n work₀) ≤ i = rw boxesIn-length h in
+      g .onward work m (rw (drop-of-length-le (boxesIn n work₀) l) (stored-none half work m))

@@ -1,11 +1,11 @@
 -- What taking an allow from all pieces leaves at the front of the work buffer. Assumes nothing.
-use mathlib.Core.Path.{_≡_, refl, ap, sym, _∙_}
+use mathlib.Core.Path.{_≡_, ap, sym, _∙_}
 use mathlib.Core.List.{List, [], _∷_, _++_, append-assoc}
 use mathlib.Core.Bool.{true, false≢true}
 use Prim.Native.Nat.{ℕ, _+_, _-_, _*_, _<_, _≤_}
 use native.Mathlib.Omega.{arith}
 use lib.Dec.{leb}
-use lib.ListN.{length, take, drop, length-append, length-drop}
+use lib.ListN.{length, take, drop, length-append}
 use lib.Seq.{sets-eq, take-at, drop-at, drop-append-add, drop-drop, length-take-le}
 use borrow.Author.Tests.{leb-true, le-leb}
 use Rattle.lists.specs.Lists.{Each}
@@ -19,8 +19,8 @@ use Rattle.policy.proofs.Cuts.{cut-inside}
 use Rattle.policy.proofs.Moves.{proper-whole}
 use Rattle.wire.specs.Records.{boxesBytes, boxesIn, Fits}
 use Rattle.wire.proofs.Records.{boxesBytes-length, boxesIn-length, boxes-back}
-use Rattle.groups.specs.Stores.{places, store, Stored, Proper, Stands, Untouched, copiedDown, Taken}
-use Rattle.groups.proofs.Stores.{length-store, take-store, drop-store, store-fits}
+use Rattle.groups.specs.Stores.{places, Stored, Proper, Stands, Untouched, copiedDown, Taken}
+use Rattle.groups.proofs.Stores.{take-store, drop-store, store-fits}
 use Rattle.groups.proofs.Pieces.{boxes-bytes, proper-all, each-from, bytes-before}
 
 -- A piece of a box that number 4 lets pass is such a box.
@@ -48,31 +48,33 @@ cutEach-proper (d ∷ ds) a h k =
 
 module _ {half : ℕ} {work : List ℕ} {n : ℕ} {a : Region} {first : ℕ} {work₁ : List ℕ} {m : ℕ} (st : Stands n work) (ok : Proper a)
     (room : half + half ≤ length work) (half-fits : boxSize * places ≤ half) (few : n ≤ places) (u : Untouched n work a first)
-    (s : Stored half work first (cutEach (boxesIn (n - first) (drop (boxSize * first) work)) a) work₁ m) where
-  later-proper : Each Proper (cutEach (boxesIn (n - first) (drop (boxSize * first) work)) a)
-  later-proper = cutEach-proper (boxesIn (n - first) (drop (boxSize * first) work)) a (each-from st (omega arith) first (u .upto)) ok
+    (s : Stored half work first (cutEach (drop first (boxesIn n work)) a) work₁ m) where
+  later-proper : Each Proper (cutEach (drop first (boxesIn n work)) a)
+  later-proper = cutEach-proper (drop first (boxesIn n work)) a (each-from st (omega arith) first (u .upto)) ok
 
-  later-fits : Each (Fits widths) (cutEach (boxesIn (n - first) (drop (boxSize * first) work)) a)
-  later-fits = proper-all (cutEach (boxesIn (n - first) (drop (boxSize * first) work)) a) later-proper
+  later-fits : Each (Fits widths) (cutEach (drop first (boxesIn n work)) a)
+  later-fits = proper-all (cutEach (drop first (boxesIn n work)) a) later-proper
 
   counted : m ≡ length (cutEach (boxesIn n work) a)
-  counted = s .count ∙ sym (ap length (u .left) ∙ (length-append (boxesIn first work) (cutEach (boxesIn (n - first) (drop (boxSize * first) work)) a) ∙ ap (λ (k : ℕ). k + length (cutEach (boxesIn (n - first) (drop (boxSize * first) work)) a)) (boxesIn-length first work)))
+  counted =
+      let l : length (take first (boxesIn n work)) ≡ first = length-take-le first (boxesIn n work) (rw boxesIn-length (u .upto)) in
+      s .count ∙ sym (ap length (u .left) ∙ (length-append (take first (boxesIn n work)) (cutEach (drop first (boxesIn n work)) a) ∙ omega arith))
 
   behind : drop (half + half) work₁ ≡ drop (half + half) work
-  behind = ap (drop (half + half)) (s .bytes) ∙ drop-store half (half + half) work first (cutEach (boxesIn (n - first) (drop (boxSize * first) work)) a) (omega arith) later-fits
+  behind = ap (drop (half + half)) (s .bytes) ∙ drop-store half (half + half) work first (cutEach (drop first (boxesIn n work)) a) (omega arith) later-fits
 
   -- More than a half holds: they are not copied down.
   pub taken-over : places < m → Taken half work n a work₁ m
   taken-over h = record { count = counted; pieces = λ k. absurd (omega arith); bytes = λ k. absurd (omega arith); beyond = behind }
 
   module _ (h : m ≤ places) where
-    later-length : length (boxesBytes (cutEach (boxesIn (n - first) (drop (boxSize * first) work)) a)) ≡ boxSize * m - boxSize * first
-    later-length = boxesBytes-length (cutEach (boxesIn (n - first) (drop (boxSize * first) work)) a) later-fits ∙ omega (arith, s .count)
+    later-length : length (boxesBytes (cutEach (drop first (boxesIn n work)) a)) ≡ boxSize * m - boxSize * first
+    later-length = boxesBytes-length (cutEach (drop first (boxesIn n work)) a) later-fits ∙ omega (arith, s .count)
 
     -- The second half has their bytes from place `first` on.
-    stored : take (boxSize * m - boxSize * first) (drop (half + boxSize * first) work₁) ≡ boxesBytes (cutEach (boxesIn (n - first) (drop (boxSize * first) work)) a)
+    stored : take (boxSize * m - boxSize * first) (drop (half + boxSize * first) work₁) ≡ boxesBytes (cutEach (drop first (boxesIn n work)) a)
     stored =
-        let later : List Region = cutEach (boxesIn (n - first) (drop (boxSize * first) work)) a in
+        let later : List Region = cutEach (drop first (boxesIn n work)) a in
         let at : ℕ = half + boxSize * first in
         let l : length (boxesBytes later) ≡ boxSize * m - boxSize * first = later-length in
         let e : work₁ ≡ take at work ++ (boxesBytes later ++ drop (at + length (boxesBytes later)) work) =
@@ -91,11 +93,11 @@ module _ {half : ℕ} {work : List ℕ} {n : ℕ} {a : Region} {first : ℕ} {wo
       lies : work₂ ≡ boxesBytes (cutEach (boxesIn n work) a) ++ drop (boxSize * m) work₁
       unfolding copiedDown
       lies =
-          let later : List Region = cutEach (boxesIn (n - first) (drop (boxSize * first) work)) a in
-          let front : take (boxSize * first) work₁ ≡ boxesBytes (boxesIn first work) =
+          let later : List Region = cutEach (drop first (boxesIn n work)) a in
+          let front : take (boxSize * first) work₁ ≡ boxesBytes (take first (boxesIn n work)) =
           ap (take (boxSize * first)) (s .bytes) ∙ (take-store half (boxSize * first) work first later (omega (arith, u .upto)) ∙ bytes-before st (omega arith) first (u .upto)) in
-          c ∙ (rw (front, stored) (sym (append-assoc (boxesBytes (boxesIn first work)) (boxesBytes later) (drop (boxSize * m) work₁))
-          ∙ ap (λ (l : List ℕ). l ++ drop (boxSize * m) work₁) (sym (ap boxesBytes (u .left) ∙ boxes-bytes (boxesIn first work) later))))
+          c ∙ (rw (front, stored) (sym (append-assoc (boxesBytes (take first (boxesIn n work))) (boxesBytes later) (drop (boxSize * m) work₁))
+          ∙ ap (λ (l : List ℕ). l ++ drop (boxSize * m) work₁) (sym (ap boxesBytes (u .left) ∙ boxes-bytes (take first (boxesIn n work)) later))))
 
       pub taken : Taken half work n a work₂ m
       taken =

@@ -1,26 +1,24 @@
 -- The loop over the rules before a deny rule: what it knows at place j, and what one allow does. Assumes nothing.
 use mathlib.Core.Path.{_≡_, refl, ap, sym, _∙_}
 use mathlib.Core.List.{List, [], _∷_, _++_, append-nil}
-use mathlib.Core.Bool.{Bool, true, false, cond, _&&_, _||_}
+use mathlib.Core.Bool.{true, false}
 use Prim.Native.Nat.{ℕ, zero, suc, _+_, _*_, _<_, _≤_}
 use native.Mathlib.Omega.{arith}
 use native.Mathlib.Numerals.{add-one}
-use lib.Dec.{ltb, eqb}
 use lib.ListN.{length, getD, take, drop, drop-of-length-le}
-use lib.Seq.{sets, sets-eq, take-at, drop-cons, drop-at}
+use lib.Seq.{sets, sets-eq, take-at, drop-cons}
 use borrow.Author.Tests.{lt-ltb, le-ltb, eq-eqb, ne-eqb}
 use Rattle.lists.specs.Lists.{Each, every}
 use Rattle.lists.proofs.Tests.{and-true}
 use Rattle.policy.specs.Fields.{widths, recordSize, boxSize, limits}
 use Rattle.policy.specs.Ranges.{Region}
-use Rattle.policy.specs.Rules.{Rule, rule, isAllow, sound, allowsIn}
+use Rattle.policy.specs.Rules.{Rule, rule, sound, allowsIn}
 use Rattle.policy.specs.Cut.{cutEach, group}
 use Rattle.policy.specs.Move.{over}
 use Rattle.policy.proofs.Moves.{rule-proper}
 use Rattle.wire.specs.Records.{boxBytes, boxIn, boxesBytes, boxesIn, ruleIn, rulesIn, Fits}
 use Rattle.wire.proofs.Records.{proper-fits, boxBytes-length, box-back, boxesIn-length, rulesIn-length, rule-in-place}
 use Rattle.groups.specs.Worked.{workSize, startAt, allowsAt, workedOf, Holds, WorkedOut}
-use Rattle.groups.specs.declared.Worked.{Worked}
 use Rattle.groups.specs.declared.Worked.the-variants.{Boxes, TooMany}
 use Rattle.groups.specs.Stores.{places, Proper, Stands, Taken}
 use Rattle.groups.proofs.Stores.{drop-sets}

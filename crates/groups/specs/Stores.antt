@@ -2,7 +2,7 @@
 -- Assumes nothing.
 use mathlib.Core.Path.{_≡_}
 use mathlib.Core.List.{List, [], _∷_, _++_}
-use mathlib.Core.Bool.{Bool, true, cond}
+use mathlib.Core.Bool.{true, cond}
 use Prim.Native.Nat.{ℕ, _+_, _-_, _*_, _≤_}
 use lib.Dec.{ltb}
 use lib.ListN.{length, take, drop, set}
@@ -14,7 +14,7 @@ use Rattle.policy.specs.Values.{rangeAt}
 use Rattle.policy.specs.Cut.{cutEach}
 use Rattle.wire.specs.Records.{boxBytes, boxesBytes, boxesIn}
 
--- How many boxes a half holds, and more pieces than any allow leaves of them all.
+-- How many boxes a half holds, and as many pieces as one allow can leave of them.
 abbrev pub places : ℕ
 places = limits .pieces
 
@@ -53,7 +53,7 @@ pub record Stands (n : ℕ) (work : List ℕ) : Type 0 where
 -- The first i of n pieces stay as they are when a is taken from all of them.
 pub record Untouched (n : ℕ) (work : List ℕ) (a : Region) (i : ℕ) : Type 0 where
   pub upto : i ≤ n
-  pub left : cutEach (boxesIn n work) a ≡ boxesIn i work ++ cutEach (boxesIn (n - i) (drop (boxSize * i) work)) a
+  pub left : cutEach (boxesIn n work) a ≡ take i (boxesIn n work) ++ cutEach (drop i (boxesIn n work)) a
 
 -- The bytes of the second half from one place up to another, at the same places of the first half.
 unfoldable pub copiedDown : ℕ → ℕ → ℕ → List ℕ → List ℕ

@@ -207,7 +207,7 @@ fn first_touched(work: &[u8], n: usize, a: Box) -> usize
 fn cut_pieces(work: &mut [u8], half: usize, first: usize, n: usize, a: Box) -> usize
     requires { ⌜ (half + boxSize * places ≤ length (now work)) × (boxSize * places ≤ half) × (n ≤ places) × (first ≤ n) ⌝ }
     requires standing { ⌜ Stands n (now work) ⌝ }
-    ensures { λ r. ⌜ Stored half (now (work .entry)) first (cutEach (boxesIn (n - first) (drop (boxSize * first) (now (work .entry)))) (regionOf a)) (now (work .exit)) r ⌝ }
+    ensures { λ r. ⌜ Stored half (now (work .entry)) first (cutEach (drop first (boxesIn n (now (work .entry)))) (regionOf a)) (now (work .exit)) r ⌝ }
 {
     let mut m = first;
     let mut i = first;

@@ -14,6 +14,10 @@ pub or-false : (t u : Bool) → (t || u) ≡ false → (t ≡ false) × (u ≡ f
 or-false true u h = (h, let z : true ≡ false = h in cc)
 or-false false u h = (refl, h)
 
+pub or-assoc : (t u v : Bool) → (t || (u || v)) ≡ (t || u || v)
+or-assoc true u v = refl
+or-assoc false u v = refl
+
 -- Two tests that imply each other are equal.
 pub bool-eq : (u w : Bool) → (u ≡ true → w ≡ true) → (w ≡ true → u ≡ true) → u ≡ w
 bool-eq true w f g = sym (f refl)

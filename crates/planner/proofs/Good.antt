@@ -87,7 +87,7 @@ complete-behind (r ∷ []) [] h = absurd (false≢true h)
 complete-behind (r ∷ []) (q ∷ l) h = h
 complete-behind (r ∷ (q ∷ x)) l h = complete-behind (q ∷ x) l h
 
-denials-length : (bs : List Region) → length (denials bs) ≡ length bs
+pub denials-length : (bs : List Region) → length (denials bs) ≡ length bs
 unfolding denials
 denials-length [] = refl
 denials-length (b ∷ bs) = ap suc (denials-length bs)

@@ -41,6 +41,7 @@ use Rattle.draft.specs.declared.Drafted.the-variants as D
 use Rattle.planner.specs.Calls.{planOf, moveOf, written, lengthOf}
 use Rattle.planner.specs.Steps.{Writes, Planned}
 use Rattle.planner.proofs.Good.{moved-good, pair-short}
+use Rattle.planner.proofs.Drafting.{ListsSound, draft-over, draft-light, draft-boxes, draft-moves, draft-content}
 
 -- A refusal writes nothing.
 pub refuses : {A : Type 0} (bytes : A → List ℕ) (size : ℕ) (x : Outcome A) (out w w′ : List ℕ) (f : Refusal)
@@ -66,89 +67,50 @@ module _ {s : List ℕ} {n m middle : ℕ} (a : OrderAccepted s n m middle) wher
   abbrev o : Order
   o = listsOf n m middle s
 
-  -- the whole of A, drafted, is the slots of a move
-  whole : (rules : List ℕ) → rules ≡ drop countSize s → stretch 0 n rules ≡ slotsOf o
-  unfolding rulesIn allowsIn
-  whole rules e = rw e
-
-  pub plan-ready : (rules draft w : List ℕ) → rules ≡ drop countSize s → draftSize limits ≤ length draft → workSize limits ≤ length w → Ready rules 0 n draft 0 0 w
-  plan-ready rules draft w e d k =
-      let p = a .place in
-      let f = faultless (limits .gate) (rulesOf n s) (a .gateFaultless) in
-      record {
-        records = rw (e, length-drop) (omega (arith, p .gateEnd, p .ownEnd));
-        rulesSound = rw e (f .sounds);
-        upTo = omega arith;
-        gate = p .gateLimit;
-        room = d;
-        start = record { place = omega arith; few = omega arith };
-        workRoom = k;
-      }
+  pub plan-lists : ListsSound s n m middle (length s)
+  plan-lists = record { place = a .place; gate = a .gateFaultless; own = a .ownFaultless }
 
   module _ (rules : List ℕ) (is : rules ≡ drop countSize s) {draft w draft′ w′ : List ℕ} (out : List ℕ) where
     pub plan-six : DraftedGroups rules 0 n draft 0 0 w D.TooManyPieces draft′ w′ → Planned s out w (Refused TooManyPieces) out w′
-    unfolding Drawn moveOf planOf room work
+    unfolding moveOf planOf room work
     plan-six x =
-        let e : anyOver (limits .pieces) (slotsOf o) ≡ true = rw (← whole rules is) (x .drafting .drawn) in
-        refuses pairBytes (pairSize limits) _ out w w′ TooManyPieces (rw (a .reads, e)) (x .beyond)
+        refuses pairBytes (pairSize limits) _ out w w′ TooManyPieces (rw (a .reads, draft-over plan-lists rules is x)) (x .beyond)
 
     module _ {b end : ℕ} (x : DraftedGroups rules 0 n draft 0 0 w (D.Groups b end) draft′ w′) where
-      light : anyOver (limits .pieces) (slotsOf o) ≡ false
-      unfolding Drawn
-      light = rw (← whole rules is) (x .drafting .drawn .0)
-
-      boxes-are : b ≡ length (together (moved o .groups))
-      unfolding Drawn
-      boxes-are = rw (← whole rules is) (omega (arith, x .drafting .drawn .1))
-
       pub plan-seven : limits .total < b + m → Planned s out w (Refused TooManyBoxes) out w′
       unfolding moveOf planOf room work
       plan-seven h =
-          let t : limits .total < length (together (moved o .groups)) + length (o .own) = omega (arith, boxes-are, rulesIn-length m (drop countSize (drop middle s))) in
-          refuses pairBytes (pairSize limits) _ out w w′ TooManyBoxes (rw (a .reads, light, lt-ltb _ _ t)) (x .beyond)
+          let t : limits .total < length (together (moved o .groups)) + length (o .own) = omega (arith, draft-boxes plan-lists rules is x, rulesIn-length m (drop countSize (drop middle s))) in
+          refuses pairBytes (pairSize limits) _ out w w′ TooManyBoxes (rw (a .reads, draft-light plan-lists rules is x, lt-ltb _ _ t)) (x .beyond)
 
       -- within the total, the draft is section C of the moved pair
       module _ (h : b + m ≤ limits .total) (roomy : draftSize limits ≤ length draft) where
         none : moveRefusal limits o ≡ 0
-        unfolding moveRefusal room work
-        none =
-            let t : length (together (moved o .groups)) + length (o .own) ≤ limits .total = omega (arith, boxes-are, rulesIn-length m (drop countSize (drop middle s))) in
-            orElse-both _ _ (a .gateFaultless) (orElse-both _ _ (a .ownFaultless) (rw (light, le-ltb _ _ t)))
+        none = draft-moves plan-lists rules is x h
 
-        pub plan-good : PairGood limits (moved o)
-        plan-good = moved-good limits o none
+        good : PairGood limits (moved o)
+        good = moved-good limits o none
 
-        bytes-drawn : (end ≡ 0 + length (groupsBytes (moved o .groups))) × (draft′ ≡ sets draft 0 (groupsBytes (moved o .groups)))
-        unfolding Drawn
-        bytes-drawn = rw (← whole rules is) (x .drafting .drawn .2 (omega arith))
-
-        pub plan-end : end ≤ length draft
-        plan-end = omega (arith, x .ends .place, a .place .gateLimit)
-
-        pub plan-content : take end draft′ ≡ groupsBytes (moved o .groups)
-        plan-content =
-            let e = bytes-drawn in
-            let z : 0 + length (groupsBytes (moved o .groups)) ≡ length (groupsBytes (moved o .groups)) = omega arith in
-            rw (e .1, sets-eq (groupsBytes (moved o .groups)) draft 0 (omega (arith, plan-end)), e .0)
-            (take-at (groupsBytes (moved o .groups)) (drop (0 + length (groupsBytes (moved o .groups))) draft) (0 + length (groupsBytes (moved o .groups))) (sym z))
+        content : take end draft′ ≡ groupsBytes (moved o .groups)
+        content = draft-content plan-lists rules is x h roomy
 
         pub plan-laid : (groups : ℕ) → groups ≡ denies (rulesOf n s) → Laid groups (take end draft′)
         plan-laid groups g =
-            let c : groups ≡ length (moved o .groups) = g ∙ sym (plan-good .counted) in
-            rw (c, plan-content) (groups-laid (moved o .groups) (plan-good .groups .boxes) (omega (arith, plan-good .groups .within)))
+            let c : groups ≡ length (moved o .groups) = g ∙ sym (good .counted) in
+            rw (c, content) (groups-laid (moved o .groups) (good .groups .boxes) (omega (arith, good .groups .within)))
 
         sheet-is : (groups : ℕ) → groups ≡ denies (rulesOf n s) → sheetOf s groups (take end draft′) ≡ pairBytes (moved o)
         unfolding pairBytes orderBytes
         sheet-is groups g =
-            let c : groups ≡ length (moved o .groups) = g ∙ sym (plan-good .counted) in
-            rw (c, plan-content, a .gateBytes, a .ownBytes, take-append-drop middle s)
+            let c : groups ≡ length (moved o .groups) = g ∙ sym (good .counted) in
+            rw (c, content, a .gateBytes, a .ownBytes, take-append-drop middle s)
 
         pub plan-few : (groups : ℕ) → groups ≡ denies (rulesOf n s) → groups < 65536
         plan-few groups g = omega (arith, denies-most (rulesOf n s), rulesIn-length n (drop countSize s), a .place .gateLimit)
 
         pub plan-fits : (groups : ℕ) → groups ≡ denies (rulesOf n s) → length s + (countSize + length (take end draft′)) ≤ pairSize limits
         plan-fits groups g =
-            let l = pair-short limits (moved o) (omega arith) (omega arith) plan-good (omega arith) in
+            let l = pair-short limits (moved o) (omega arith) (omega arith) good (omega arith) in
             let k : length (sheetOf s groups (take end draft′)) ≡ length s + (countSize + length (take end draft′)) = rw (length-append, length-append, numberBytes-length) refl in
             omega (arith, ap length (sheet-is groups g))
 

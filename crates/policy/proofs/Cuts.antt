@@ -162,22 +162,22 @@ hits-none-before d (r ∷ l) = rw (hits-none-before d l)
 -- the parts of a field and what is left of the later fields, put together
 join : (wr ws ip ia : Bool) (m n : ℕ) → m + n ≡ one (wr && not ws)
     → cond ip m 0 + (cond ip n 0 + cond (wr && ws) (one (ip && not ia)) 0) ≡ one (wr && ip && not (ws && ia))
+join wr ws false ia m n h = none (wr && ws) (wr && false && not (ws && ia)) (last wr (ws && ia))
+  where
+    none : (u v : Bool) → v ≡ false → 0 + (0 + cond u 0 0) ≡ one v
+    none u v e = rw e (zero u)
+      where
+        zero : (u : Bool) → 0 + (0 + cond u 0 0) ≡ 0
+        zero true = refl
+        zero false = refl
+
+    last : (u v : Bool) → (u && false && not v) ≡ false
+    last true v = refl
+    last false v = refl
 join true true true true m n h = omega arith
 join true true true false m n h = omega arith
-join true true false true m n h = omega arith
-join true true false false m n h = omega arith
-join true false true true m n h = omega arith
-join true false true false m n h = omega arith
-join true false false true m n h = omega arith
-join true false false false m n h = omega arith
-join false true true true m n h = omega arith
-join false true true false m n h = omega arith
-join false true false true m n h = omega arith
-join false true false false m n h = omega arith
-join false false true true m n h = omega arith
-join false false true false m n h = omega arith
-join false false false true m n h = omega arith
-join false false false false m n h = omega arith
+join true false true ia m n h = omega arith
+join false ws true ia m n h = omega arith
 
 alone : (wr ws ip ia : Bool) → (wr ≡ true → ws ≡ true → ⊥) → one (wr && ip) + 0 ≡ one (wr && ip && not (ws && ia))
 alone false ws ip ia h = refl

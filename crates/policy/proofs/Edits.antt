@@ -7,7 +7,7 @@ use Prim.Native.Nat.{ℕ, zero, suc, _+_}
 use lib.ListN.{length, take, drop, length-append, length-map}
 use lib.Seq.{take-at, drop-at}
 use borrow.Author.Tests.{not-false}
-use Rattle.lists.proofs.Tests.{or-false}
+use Rattle.lists.proofs.Tests.{or-false, or-assoc}
 use Rattle.lists.proofs.Lists.{map-append, append-none, three-parts}
 use Rattle.policy.specs.Fields.{Limits}
 use Rattle.policy.specs.Ranges.{Region}
@@ -90,11 +90,7 @@ kept-over m (g ∷ gs) = kept-over m gs
 pub over-append : (m : ℕ) (x y : List Slot) → anyOver m (x ++ y) ≡ (anyOver m x || anyOver m y)
 unfolding anyOver
 over-append m [] y = refl
-over-append m (s ∷ x) y = rw (over-append m x y) (go (overSlot m s))
-  where
-    go : (t : Bool) → (t || (anyOver m x || anyOver m y)) ≡ (t || anyOver m x || anyOver m y)
-    go true = refl
-    go false = refl
+over-append m (s ∷ x) y = rw (over-append m x y) (or-assoc (overSlot m s) (anyOver m x) (anyOver m y))
 
 pub faults-append : (x y : List Rule) → faults (x ++ y) ≡ orElse (faults x) (faults y)
 unfolding faults

@@ -8,7 +8,7 @@ use native.Mathlib.Omega.{arith}
 use lib.Dec.{leb, eqb}
 use borrow.Author.Tests.{leb-true, eqb-true, not-false}
 use Rattle.lists.specs.Lists.{Each}
-use Rattle.lists.proofs.Tests.{and-true, and-both}
+use Rattle.lists.proofs.Tests.{and-true, and-both, or-assoc}
 use Rattle.lists.proofs.Lists.{each-append}
 use Rattle.policy.specs.Fields.{highest}
 use Rattle.policy.specs.Ranges.{range, Region, Packet, within, inside, Whole, everyField, properRange, proper, fullRange, isFull, fullOver}
@@ -150,11 +150,7 @@ any-once p (b ∷ l) t h = go (inside p b) refl (λ (k : hits p l ≡ one t). an
 pub any-append : (p : Packet) (l k : List Region) → anyHas p (l ++ k) ≡ (anyHas p l || anyHas p k)
 unfolding anyHas
 any-append p [] k = refl
-any-append p (b ∷ l) k = rw (any-append p l k) (go (inside p b))
-  where
-    go : (t : Bool) → (t || (anyHas p l || anyHas p k)) ≡ (t || anyHas p l || anyHas p k)
-    go true = refl
-    go false = refl
+any-append p (b ∷ l) k = rw (any-append p l k) (or-assoc (inside p b) (anyHas p l) (anyHas p k))
 
 -- a start has a packet of the deny box once if a test of the packet holds
 abbrev pub Starts : Packet → (Region → List Region) → Bool → Type 0

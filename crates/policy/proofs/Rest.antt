@@ -17,10 +17,10 @@ use Rattle.policy.specs.Values.{rangeAt}
 use Rattle.policy.specs.Cut.{meets, shared, after, before, pieces, cut}
 
 -- The part of d whose field k is below x, if any, and the part above x, if any.
-abbrev pub partBelow : Region → ℕ → ℕ → List Region
+abbrev partBelow : Region → ℕ → ℕ → List Region
 partBelow d k x = cond (ltb (rangeAt d k .low) x) (set d k (range (rangeAt d k .low) (x - 1)) ∷ []) []
 
-abbrev pub partAbove : Region → ℕ → ℕ → List Region
+abbrev partAbove : Region → ℕ → ℕ → List Region
 partAbove d k x = cond (ltb x (rangeAt d k .high)) (set d k (range (x + 1) (rangeAt d k .high)) ∷ []) []
 
 abbrev behind : Region → Region → Region

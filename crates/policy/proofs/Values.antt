@@ -1,13 +1,14 @@
 -- Laws on the reading of a box as a list of ranges. Assumes nothing.
 use mathlib.Core.Path.{_≡_, refl, ap, sym, _∙_}
 use mathlib.Core.List.{List, [], _∷_}
-use mathlib.Core.Bool.{Bool, true, false, not, _&&_}
+use mathlib.Core.Bool.{Bool, true, false, cond, not, _&&_}
 use Prim.Native.Nat.{ℕ, zero, suc, _+_, _<_, _≤_}
 use native.Mathlib.Omega.{arith}
 use native.Mathlib.Numerals.{add-one}
+use lib.Dec.{ltb}
 use lib.ListN.{length, getD, set, drop, drop-of-length-le}
 use lib.Seq.{drop-cons}
-use borrow.Author.Tests.{not-true, not-false}
+use borrow.Author.Tests.{ltb-true, ltb-false, lt-ltb, le-ltb, not-true, not-false}
 use Rattle.policy.specs.Ranges.{Range, range, Region, everyField}
 use Rattle.policy.specs.Values.{ranges, rangeAt}
 
@@ -52,3 +53,18 @@ module _ (f : ℕ → Range → Bool) (hs : List ℕ) (b : Region) (k : ℕ) (sa
   pub fields-done : length hs ≤ k → length b ≤ k → true ≡ everyField f hs b
   unfolding everyField
   fields-done u v = sym (same ∙ rw (drop-of-length-le hs u, drop-of-length-le b v))
+
+-- A walk over the fields that puts something new at field k: what it has when it comes to field j.
+module _ {A : Type 0} (k j : ℕ) (new old : A) where
+  pub walk-before : j ≤ k → cond (ltb k j) new old ≡ old
+  walk-before h = rw (le-ltb k j h)
+
+  pub walk-after : k < j → cond (ltb k j) new old ≡ new
+  walk-after h = rw (lt-ltb k j h)
+
+  pub walk-past : (j ≡ k → ⊥) → cond (ltb k j) new old ≡ cond (ltb k (j + 1)) new old
+  walk-past h = go (ltb k j) refl
+    where
+      go : (t : Bool) → ltb k j ≡ t → cond t new old ≡ cond (ltb k (j + 1)) new old
+      go true e = let l = ltb-true k j e in rw (lt-ltb k (j + 1) (omega arith))
+      go false e = let l = ltb-false k j e in rw (le-ltb k (j + 1) (omega arith))

@@ -2,7 +2,7 @@
 // fields or on a width stands in the fields' table below.
 ghost use mathlib.Core.Path.{_≡_};
 ghost use Prim.Native.Nat.{_+_, _-_, _≤_, _<_};
-ghost use lib.ListN.{length, set};
+ghost use lib.ListN.{length, getD, set};
 ghost use Rattle.policy.specs.Fields.{fields, highest};
 ghost use Rattle.policy.specs.Ranges.{range, properRange, proper, fullRange, isFull};
 ghost use Rattle.policy.specs.Rules.{sound};
@@ -99,6 +99,21 @@ fn is_full_range(low: u32, high: u32, most: u32) -> bool
     high == most
 }
 
+fn value_at(values: [u32; FIELDS], k: usize) -> u32
+    requires { ⌜ k < fields ⌝ }
+    ensures { λ r. ⌜ r ≡ getD values k 0 ⌝ }
+{
+    let mut x: u32 = 0;
+    let mut j: usize = 0;
+    while j < FIELDS {
+        if j == k {
+            x = values[j];
+        }
+        j += 1;
+    }
+    x
+}
+
 impl Box {
     pub fn low_at(self, k: usize) -> u32
         requires { ⌜ k < fields ⌝ }
@@ -116,14 +131,21 @@ impl Box {
         high[k]
     }
 
-    // Field k narrowed to a range.
+    // Field k narrowed to a range. The fields are walked and not indexed, here and in `value_at`: so a box that is cut stays in
+    // registers.
     pub fn narrow(self, k: usize, low: u32, high: u32) -> Box
         requires { ⌜ k < fields ⌝ }
         ensures { λ r. ⌜ regionOf r ≡ set (regionOf self) k (range low high) ⌝ }
     {
         let mut b = self;
-        b.low[k] = low;
-        b.high[k] = high;
+        let mut j: usize = 0;
+        while j < FIELDS {
+            if j == k {
+                b.low[j] = low;
+                b.high[j] = high;
+            }
+            j += 1;
+        }
         b
     }
 
@@ -133,7 +155,7 @@ impl Box {
         ensures { λ r. ⌜ regionOf r ≡ set (regionOf self) k (range (rangeAt (regionOf self) k .low) (x - 1)) ⌝ }
     {
         let low = self.low;
-        self.narrow(k, low[k], x - 1)
+        self.narrow(k, value_at(low, k), x - 1)
     }
 
     // The part whose field k is above x.
@@ -142,7 +164,7 @@ impl Box {
         ensures { λ r. ⌜ regionOf r ≡ set (regionOf self) k (range (x + 1) (rangeAt (regionOf self) k .high)) ⌝ }
     {
         let high = self.high;
-        self.narrow(k, x + 1, high[k])
+        self.narrow(k, x + 1, value_at(high, k))
     }
 
     // No low above its high, no value above its field's highest.

@@ -1,3 +1,4 @@
+-- `copy_down` meets its contract: the loop's invariant says that the bytes before place i are copied. Assumes nothing.
 use borrow.Author.Needs.{needs}
 use mathlib.Core.Path.{_≡_, refl, ap, _∙_}
 use Prim.Native.Nat.{ℕ, _+_, _-_, _<_, _≤_}
@@ -7,8 +8,6 @@ use Rattle.groups.specs.Stores.{copiedDown}
 use Rattle.groups.proofs.Copies.{down-none, down-read, down-next}
 use Rattle.groups.proofs.copy_down.Statement.{statement}
 use Rattle.groups.proofs.copy_down.Tie as tie
-use Rattle.groups.proofs.copy_down.Reads as reads
-use Rattle.groups.proofs.copy_down.Lts as lts
 
 abbrev Inv-loop : tie.InvT-loop
 Inv-loop work₀ half from to i₀ work i = (from ≤ i) × (i ≤ to) × (length work ≡ length work₀) × (work ≡ copiedDown half from i work₀)
@@ -16,31 +15,24 @@ Inv-loop work₀ half from to i₀ work i = (from ≤ i) × (i ≤ to) × (lengt
 abbrev μ-loop : tie.MeasureT-loop
 μ-loop work₀ half from to i₀ work i = to - i
 
--- src/lib.rt:227:5
 loop-holds : tie.Need-loop-holds Inv-loop μ-loop
 loop-holds c = (search needs, search needs, refl, down-none (c .args .half) (c .args .from) (c .args .work .now))
 
--- src/lib.rt:228:24
 add-work : tie.Need-add-work Inv-loop μ-loop
 add-work c = search needs
 
--- src/lib.rt:228:19
 slice-read-work : tie.Need-slice-read-work Inv-loop μ-loop
 slice-read-work c = search needs
 
--- src/lib.rt:228:9
 slice-write-work : tie.Need-slice-write-work Inv-loop μ-loop
 slice-write-work c = search needs
 
--- src/lib.rt:229:9
 add-i : tie.Need-add-i Inv-loop μ-loop
 add-i c = search needs
 
--- src/lib.rt:227:5
 loop-less : tie.Need-loop-less Inv-loop μ-loop
 loop-less c = search needs
 
--- src/lib.rt:227:5
 loop-again : tie.Need-loop-again Inv-loop μ-loop
 loop-again c =
     let h = c .before .before .loop in
@@ -52,11 +44,9 @@ loop-again c =
       rw (h .inv .3, down-read (a .half) (a .from) (a .work .now) (h .i) (h .inv .0) (omega arith) t) (down-next (a .half) (a .from) (a .work .now) (h .i) (h .inv .0) (omega arith) t),
     )
 
--- src/lib.rt:222:1
 same-length : tie.Need-same-length Inv-loop μ-loop
 same-length c = search needs
 
--- src/lib.rt:222:1
 returns : tie.Need-returns Inv-loop μ-loop
 returns c =
     let a = c .before .before .args in

@@ -1,45 +1,32 @@
+-- `cut_piece` meets its contract: a piece that stays is kept, any other is cut. Assumes nothing.
 use borrow.Author.Needs.{needs}
 use Rattle.groups.proofs.cut_piece.Statement.{statement}
 use Rattle.groups.proofs.cut_piece.Tie as tie
-use Rattle.groups.proofs.cut_piece.Reads as reads
-use Rattle.groups.proofs.cut_piece.Lts as lts
-use Rattle.groups.proofs.cut_box.Reads as cut-box-reads
-use Rattle.groups.proofs.keep_box.Reads as keep-box-reads
-use Rattle.groups.proofs.stays.Reads as stays-reads
-use Rattle.wire.proofs.box_at.Reads as box-at-reads
 
--- src/lib.rt:183:9
 box-at-requires : tie.Need-box-at-requires
 box-at-requires c κs = search needs
 
--- src/lib.rt:184:8
 stays-requires : tie.Need-stays-requires
 stays-requires c κs = search needs
 
--- src/lib.rt:185:9
 keep-box-requires : tie.Need-keep-box-requires
 keep-box-requires c κs = search needs
 
--- src/lib.rt:185:9
 same-length : tie.Need-same-length
 same-length c = search needs
 
--- src/lib.rt:185:9
 returns : tie.Need-returns
 returns c =
     let d = c .before .before .before .before .before .before .box-at in
     let whole = c .before .before .before .before .before .stays .ensures (c .before .before .before .before .if1 .taken) in
     rw (← d .ensures, whole, d .ensures) (c .before .before .keep-box .ensures)
 
--- src/lib.rt:187:5
 cut-box-requires : tie.Need-cut-box-requires
 cut-box-requires c κs = search needs
 
--- src/lib.rt:178:1
 same-length-2 : tie.Need-same-length-2
 same-length-2 c = search needs
 
--- src/lib.rt:178:1
 returns-2 : tie.Need-returns-2
 returns-2 c = rw (← c .before .before .before .before .before .before .box-at .ensures) (c .before .before .cut-box .ensures)
 

@@ -1,3 +1,4 @@
+-- `keep_box` meets its contract: the bytes of a box are stored as they stand. Assumes nothing.
 use borrow.Author.Needs.{needs}
 use mathlib.Core.Path.{refl, ap, _∙_}
 use Prim.Native.Nat.{_+_, _*_}
@@ -7,41 +8,30 @@ use Rattle.policy.specs.Fields.{boxSize}
 use Rattle.groups.proofs.Stores.{stored-in, stored-past}
 use Rattle.groups.proofs.keep_box.Statement.{statement}
 use Rattle.groups.proofs.keep_box.Tie as tie
-use Rattle.groups.proofs.keep_box.Reads as reads
-use Rattle.groups.proofs.keep_box.Lts as lts
-use Rattle.groups.proofs.move_box.Reads as move-box-reads
 
--- src/lib.rt:171:35
 mul-move-box : tie.Need-mul-move-box
 mul-move-box c = search needs
 
--- src/lib.rt:171:28
 add-move-box : tie.Need-add-move-box
 add-move-box c = search needs
 
--- src/lib.rt:171:9
 move-box-requires : tie.Need-move-box-requires
 move-box-requires c κs = search needs
 
--- src/lib.rt:172:16
 add-result : tie.Need-add-result
 add-result c = search needs
 
--- src/lib.rt:172:9
 same-length : tie.Need-same-length
 same-length c = search needs
 
--- src/lib.rt:172:9
 returns : tie.Need-returns
 returns c =
     let x = c .before .before .before .before .before .before in
     stored-in (x .args .half) (x .args .work .now) (c .before .before .move-box .last .0) (x .args .m) _ _ (omega arith) refl (c .before .before .move-box .ensures ∙ ap (sets (x .args .work .now) (x .args .half + boxSize * x .args .m)) (x .pre .1))
 
--- src/lib.rt:174:5
 add-result-2 : tie.Need-add-result-2
 add-result-2 c = search needs
 
--- src/lib.rt:165:1
 returns-2 : tie.Need-returns-2
 returns-2 c =
     let a = c .before .before .args in

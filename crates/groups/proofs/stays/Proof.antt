@@ -1,3 +1,4 @@
+-- `stays` meets its contract: the loop's invariant says that nothing has been cut off before field k. Assumes nothing.
 use borrow.Author.Needs.{needs}
 use mathlib.Core.Path.{_≡_, _∙_}
 use mathlib.Core.Bool.{false≢true}
@@ -9,10 +10,6 @@ use Rattle.policy.proofs.Values.{ranges-length}
 use Rattle.groups.proofs.Cutting.{Staying, staying-first, staying-above, staying-below, staying-next}
 use Rattle.groups.proofs.stays.Statement.{statement}
 use Rattle.groups.proofs.stays.Tie as tie
-use Rattle.groups.proofs.stays.Reads as reads
-use Rattle.groups.proofs.stays.Lts as lts
-use Rattle.policy.proofs.Box.high_at.Reads as high-at-reads
-use Rattle.policy.proofs.Box.low_at.Reads as low-at-reads
 
 abbrev Inv-loop : tie.InvT-loop
 Inv-loop d a k₀ k = Staying (regionOf d) (regionOf a) k
@@ -20,7 +17,6 @@ Inv-loop d a k₀ k = Staying (regionOf d) (regionOf a) k
 abbrev μ-loop : tie.MeasureT-loop
 μ-loop d a k₀ k = fields - k
 
--- src/lib.rt:130:5
 loop-holds : tie.Need-loop-holds Inv-loop μ-loop
 loop-holds c =
     let a = c .args in
@@ -30,51 +26,39 @@ loop-holds c =
     let h′ : length (a .a .high) ≡ fields = search needs in
     staying-first (regionOf (a .d)) (regionOf (a .a)) (ranges-length (a .d .low) (a .d .high) (cc) ∙ l) (ranges-length (a .a .low) (a .a .high) (cc) ∙ l′)
 
--- src/lib.rt:131:13
 low-at-requires : tie.Need-low-at-requires Inv-loop μ-loop
 low-at-requires c κs = search needs
 
--- src/lib.rt:132:13
 high-at-requires : tie.Need-high-at-requires Inv-loop μ-loop
 high-at-requires c κs = search needs
 
--- src/lib.rt:133:13
 low-at-requires-2 : tie.Need-low-at-requires-2 Inv-loop μ-loop
 low-at-requires-2 c κs = search needs
 
--- src/lib.rt:134:13
 high-at-requires-2 : tie.Need-high-at-requires-2 Inv-loop μ-loop
 high-at-requires-2 c κs = search needs
 
--- src/lib.rt:136:13
 returns : tie.Need-returns Inv-loop μ-loop
 returns c _ = staying-above (c .before .before .before .before .before .before .loop .inv) (c .before .before .before .before .before .loop-test .taken) (c .before .before .before .before .low-at .ensures .0) (c .before .before .before .high-at .ensures .0) (c .before .before .low-at2 .ensures .0) (c .before .high-at2 .ensures .0) (c .if1 .taken)
 
--- src/lib.rt:139:13
 returns-2 : tie.Need-returns-2 Inv-loop μ-loop
 returns-2 c _ = staying-below (c .before .before .before .before .before .before .before .loop .inv) (c .before .before .before .before .before .before .loop-test .taken) (c .before .before .before .before .before .low-at .ensures .0) (c .before .before .before .before .high-at .ensures .0) (c .before .before .before .low-at2 .ensures .0) (c .before .before .high-at2 .ensures .0) (c .if2 .taken)
 
--- src/lib.rt:142:13
 returns-3 : tie.Need-returns-3 Inv-loop μ-loop
 returns-3 c e = absurd (false≢true e)
 
--- src/lib.rt:145:13
 returns-4 : tie.Need-returns-4 Inv-loop μ-loop
 returns-4 c e = absurd (false≢true e)
 
--- src/lib.rt:147:9
 add-k : tie.Need-add-k Inv-loop μ-loop
 add-k c = search needs
 
--- src/lib.rt:130:5
 loop-less : tie.Need-loop-less Inv-loop μ-loop
 loop-less c = search needs
 
--- src/lib.rt:130:5
 loop-again : tie.Need-loop-again Inv-loop μ-loop
 loop-again c = staying-next (c .before .before .before .before .before .before .before .before .before .loop .inv) (c .before .before .before .before .before .before .before .before .loop-test .taken) (c .before .before .before .before .before .before .before .low-at .ensures .0) (c .before .before .before .before .before .before .high-at .ensures .0) (c .before .before .before .before .before .low-at2 .ensures .0) (c .before .before .before .before .high-at2 .ensures .0) (c .before .before .before .if1 .left) (c .before .before .if2 .left) (c .before .if3 .left) (c .if4 .left)
 
--- src/lib.rt:126:1
 returns-5 : tie.Need-returns-5 Inv-loop μ-loop
 returns-5 c e = absurd (false≢true e)
 

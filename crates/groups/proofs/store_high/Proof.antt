@@ -1,3 +1,4 @@
+-- `store_high` meets its contract: the high part is stored where there is one. Assumes nothing.
 use borrow.Author.Needs.{needs}
 use native.Mathlib.Omega.{arith}
 use Rattle.policy.specs.Values.{regionOf}
@@ -5,30 +6,21 @@ use Rattle.groups.proofs.Stores.{stored-none}
 use Rattle.groups.proofs.Cutting.{above-some, above-none}
 use Rattle.groups.proofs.store_high.Statement.{statement}
 use Rattle.groups.proofs.store_high.Tie as tie
-use Rattle.groups.proofs.store_high.Reads as reads
-use Rattle.groups.proofs.store_high.Lts as lts
-use Rattle.groups.proofs.store_box.Reads as store-box-reads
-use Rattle.policy.proofs.Box.high_part.Reads as high-part-reads
 
--- src/lib.rt:75:41
 high-part-requires : tie.Need-high-part-requires
 high-part-requires c κs = search needs
 
--- src/lib.rt:75:9
 store-box-requires : tie.Need-store-box-requires
 store-box-requires c κs = search needs
 
--- src/lib.rt:75:9
 same-length : tie.Need-same-length
 same-length c = search needs
 
--- src/lib.rt:75:9
 returns : tie.Need-returns
 returns c =
     let a = c .before .before .before .before .before .before .before .args in
     rw (above-some (regionOf (a .b)) (a .k) (a .x) (omega arith), ← c .before .before .before .high-part .ensures) (c .before .before .store-box .ensures)
 
--- src/lib.rt:70:1
 returns-2 : tie.Need-returns-2
 returns-2 c =
     let a = c .before .before .args in

@@ -1,3 +1,4 @@
+-- `store_low` meets its contract: the low part is stored where there is one. Assumes nothing.
 use borrow.Author.Needs.{needs}
 use native.Mathlib.Omega.{arith}
 use Rattle.policy.specs.Values.{regionOf}
@@ -5,30 +6,21 @@ use Rattle.groups.proofs.Stores.{stored-none}
 use Rattle.groups.proofs.Cutting.{below-some, below-none}
 use Rattle.groups.proofs.store_low.Statement.{statement}
 use Rattle.groups.proofs.store_low.Tie as tie
-use Rattle.groups.proofs.store_low.Reads as reads
-use Rattle.groups.proofs.store_low.Lts as lts
-use Rattle.groups.proofs.store_box.Reads as store-box-reads
-use Rattle.policy.proofs.Box.low_part.Reads as low-part-reads
 
--- src/lib.rt:64:41
 low-part-requires : tie.Need-low-part-requires
 low-part-requires c κs = search needs
 
--- src/lib.rt:64:9
 store-box-requires : tie.Need-store-box-requires
 store-box-requires c κs = search needs
 
--- src/lib.rt:64:9
 same-length : tie.Need-same-length
 same-length c = search needs
 
--- src/lib.rt:64:9
 returns : tie.Need-returns
 returns c =
     let a = c .before .before .before .before .before .before .before .args in
     rw (below-some (regionOf (a .b)) (a .k) (a .x) (omega arith), ← c .before .before .before .low-part .ensures) (c .before .before .store-box .ensures)
 
--- src/lib.rt:59:1
 returns-2 : tie.Need-returns-2
 returns-2 c =
     let a = c .before .before .args in

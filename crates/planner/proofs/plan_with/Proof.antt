@@ -6,7 +6,8 @@ use Rattle.lists.proofs.Parts.{tail-whole}
 use Rattle.policy.specs.Fields.{countSize}
 use Rattle.wire.proofs.Numbers.{bytes-all}
 use Rattle.sheet.proofs.Accepted.{order-refused, order-accepted}
-use Rattle.planner.proofs.Planning.{plan-refused, plan-ready, plan-six, plan-seven, plan-end, plan-laid, plan-few, plan-fits, plan-accepted}
+use Rattle.planner.proofs.Drafting.{draft-ready, draft-end}
+use Rattle.planner.proofs.Planning.{plan-refused, plan-lists, plan-six, plan-seven, plan-laid, plan-few, plan-fits, plan-accepted}
 use Rattle.planner.proofs.plan_with.Statement.{statement}
 use Rattle.planner.proofs.plan_with.Tie as tie
 
@@ -44,7 +45,7 @@ draft-groups-requires c κs =
     let g = c .before .before .before .before .gate .given in
     let a = order-accepted (c .before .before .before .before .before .before .read-order .ensures) (bytes-all s (λ i. omega (arith, c .before .before .before .before .before .before .before .before .before .before .shared-slice-known .given i))) _ _ _ (g .1) in
     let rules = tail-whole s countSize (omega (arith, a .place .gateEnd, a .place .inside, a .place .ownEnd)) in
-    plan-ready a _ _ _ rules (c .before .before .before .before .before .before .before .before .before .before .before .pre .1) (c .before .before .before .before .before .before .before .before .before .before .before .pre .2)
+    draft-ready (plan-lists a) _ _ _ rules (c .before .before .before .before .before .before .before .before .before .before .before .pre .1) (c .before .before .before .before .before .before .before .before .before .before .before .pre .2)
 
 enum-told : tie.Need-enum-told
 enum-told c = search needs
@@ -91,7 +92,7 @@ slice-reshare-prefix-put-pair c =
     let a = order-accepted (c .before .before .before .before .before .before .before .before .before .before .before .before .before .before .before .before .before .read-order .ensures) (bytes-all s (λ i. omega (arith, c .before .before .before .before .before .before .before .before .before .before .before .before .before .before .before .before .before .before .before .before .before .shared-slice-known .given i))) _ _ _ (g .1) in
     let rules = tail-whole s countSize (omega (arith, a .place .gateEnd, a .place .inside, a .place .ownEnd)) in
     let x = rw (c .before .before .before .before .boxes .given .1) at (c .before .before .before .before .before .before .before .before .before .before .draft-groups .ensures) in
-    omega (arith, plan-end a _ rules (c .before .before .before .before .before .before .before .before .before .before .before .before .before .before .before .before .before .before .before .before .before .before .args .sheet .now) x (omega arith) (c .before .before .before .before .before .before .before .before .before .before .before .before .before .before .before .before .before .before .before .before .before .before .pre .1))
+    omega (arith, draft-end (plan-lists a) _ rules x (omega arith) (c .before .before .before .before .before .before .before .before .before .before .before .before .before .before .before .before .before .before .before .before .before .before .pre .1))
 
 slice-aggregate-put-pair : tie.Need-slice-aggregate-put-pair
 slice-aggregate-put-pair c =
@@ -100,7 +101,7 @@ slice-aggregate-put-pair c =
     let a = order-accepted (c .before .before .before .before .before .before .before .before .before .before .before .before .before .before .before .before .before .before .read-order .ensures) (bytes-all s (λ i. omega (arith, c .before .before .before .before .before .before .before .before .before .before .before .before .before .before .before .before .before .before .before .before .before .before .shared-slice-known .given i))) _ _ _ (g .1) in
     let rules = tail-whole s countSize (omega (arith, a .place .gateEnd, a .place .inside, a .place .ownEnd)) in
     let x = rw (c .before .before .before .before .before .boxes .given .1) at (c .before .before .before .before .before .before .before .before .before .before .before .draft-groups .ensures) in
-    let e = plan-end a _ rules (c .before .before .before .before .before .before .before .before .before .before .before .before .before .before .before .before .before .before .before .before .before .before .before .args .sheet .now) x (omega arith) (c .before .before .before .before .before .before .before .before .before .before .before .before .before .before .before .before .before .before .before .before .before .before .before .pre .1) in
+    let e = draft-end (plan-lists a) _ rules x (omega arith) (c .before .before .before .before .before .before .before .before .before .before .before .before .before .before .before .before .before .before .before .before .before .before .before .pre .1) in
     simp length-take (omega arith)
 
 put-pair-requires : tie.Need-put-pair-requires

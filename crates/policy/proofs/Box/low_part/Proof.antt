@@ -1,19 +1,14 @@
+-- `Box::low_part` meets its contract, by the range that the field has. Assumes nothing.
 use borrow.Author.Needs.{needs}
-use lib.ListN.{length}
 use mathlib.Core.Path.{_≡_}
-use Rattle.policy.proofs.Values.{ranges-at}
+use lib.ListN.{length}
 use Rattle.policy.specs.Fields.{fields}
+use Rattle.policy.proofs.Values.{ranges-at}
 use Rattle.policy.proofs.Box.low_part.Statement.{statement}
 use Rattle.policy.proofs.Box.low_part.Tie as tie
-use Rattle.policy.proofs.Box.low_part.Reads as reads
-use Rattle.policy.proofs.Box.low_part.Lts as lts
-use Rattle.policy.proofs.Box.narrow.Reads as narrow-reads
 
-mul-narrow : tie.Need-mul-narrow
-mul-narrow c = search needs
-
-array-read-narrow : tie.Need-array-read-narrow
-array-read-narrow c = search needs
+value-at-requires : tie.Need-value-at-requires
+value-at-requires c κs = search needs
 
 sub-narrow : tie.Need-sub-narrow
 sub-narrow c = search needs
@@ -23,10 +18,10 @@ narrow-requires c κs = search needs
 
 returns : tie.Need-returns
 returns c =
-    let b = c .before .before .args .self in
+    let b = c .before .before .before .args .self in
     let l : length (b .low) ≡ fields = search needs in
     let h : length (b .high) ≡ fields = search needs in
-    rw (ranges-at (b .low) (b .high) (c .before .before .args .k) (cc)) (c .narrow .ensures)
+    rw (ranges-at (b .low) (b .high) (c .before .before .before .args .k) (cc), ← c .before .value-at .ensures) (c .narrow .ensures)
 
 pub low-part-spec : {M : Type 1} → statement M
-low-part-spec = tie.close (tie.spec mul-narrow array-read-narrow sub-narrow narrow-requires returns)
+low-part-spec = tie.close (tie.spec value-at-requires sub-narrow narrow-requires returns)

@@ -1,5 +1,9 @@
 -- `rule` meets its contract, return by return. Assumes nothing.
 use borrow.Author.Needs.{needs}
+use native.Mathlib.Omega.{arith}
+use mathlib.Core.Path.{_≡_}
+use lib.ListN.{length}
+use Rattle.policy.specs.Fields.{recordSize}
 use Rattle.wire.proofs.RecordCalls.{no-room, not-a-record, bad-record, record-read}
 use Rattle.wire.proofs.record.rule.Statement.{statement}
 use Rattle.wire.proofs.record.rule.Tie as tie
@@ -8,7 +12,9 @@ returns : tie.Need-returns
 returns c = search (needs, no-room)
 
 returns-2 : tie.Need-returns-2
-returns-2 c = search (needs, not-a-record)
+returns-2 c =
+    let n : length (c .before .before .before .before .args .bytes .now) ≡ recordSize → ⊥ = λ e. omega arith in
+    search (needs, not-a-record)
 
 rule-at-requires : tie.Need-rule-at-requires
 rule-at-requires c κs = search needs
