@@ -102,6 +102,7 @@ fn put_region(out: &mut [u8], r: &Region) {
 fn groups(gate: &[Rule]) -> Result<Vec<Vec<Region>>, u32> {
     let mut allows: Vec<Region> = Vec::new();
     let mut groups = Vec::new();
+    let mut next = Vec::new();
     for r in gate {
         if r.action == 1 {
             allows.push(r.region);
@@ -109,14 +110,14 @@ fn groups(gate: &[Rule]) -> Result<Vec<Vec<Region>>, u32> {
         }
         let mut pieces = vec![r.region];
         for a in &allows {
-            let mut next = Vec::with_capacity(pieces.len());
+            next.clear();
             for d in &pieces {
                 cut(d, a, &mut next);
             }
             if next.len() > MOST {
                 return Err(6);
             }
-            pieces = next;
+            std::mem::swap(&mut pieces, &mut next);
         }
         groups.push(pieces);
     }
@@ -236,7 +237,7 @@ pub fn run() {
         let mut work = vec![0u8; WORK];
         let answers: Vec<u32> = versions.iter().zip(&mut sheets).map(|((_, f), s)| f(order, s, &mut work)).collect();
         assert!(answers[0] == answers[1] && sheets[0] == sheets[1], "{what}: {answers:?}");
-        let boxes = (answers[0] as usize).saturating_sub(order.len()) / BOX;
+        let boxes = plan(order, &mut sheets[1]).map_or(0, |n| (n - order.len() - 2) / BOX);
         compare(&format!("{what}, {boxes} boxes"), &versions, 1, |f| {
             std::hint::black_box(f(std::hint::black_box(order), &mut sheets[0], &mut work));
         });

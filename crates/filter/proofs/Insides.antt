@@ -1,7 +1,7 @@
 -- Whether a packet is in a box, told field by field and in any order. Assumes nothing.
 use mathlib.Core.Path.{_≡_, refl}
 use mathlib.Core.List.{[], _∷_}
-use mathlib.Core.Bool.{Bool, true, false, cond, _&&_}
+use mathlib.Core.Bool.{Bool, true, false, _&&_}
 use Prim.Native.Nat.{_%_, _^_, _+_, _-_, ℕ, zero, suc, _<_, _≤_, zero-le, suc-le-suc}
 use native.Mathlib.Omega.{arith}
 use lib.Dec.{leb}
@@ -54,19 +54,3 @@ all-inside [] (r ∷ b) e f = absurd (omega arith)
 all-inside (x ∷ p) [] e f = absurd (omega arith)
 all-inside (x ∷ p) (r ∷ b) e f =
     and-both (within x r) (inside p b) (f 0 (suc-le-suc zero-le)) (all-inside p b (omega arith) (λ k h. f (suc k) (suc-le-suc h)))
-
--- A loop over the fields, in whatever order, has tried k of them, and n were in their ranges: if all were, then every field
--- passed is in its range, and if not, the packet is not in the box.
-abbrev pub Tried : Packet → Region → (ℕ → Type 0) → ℕ → ℕ → Type 0
-Tried p b Passed k n = (n ≤ k) × (n ≡ k → ((j : ℕ) → Passed j → InRange p b j)) × (n < k → inside p b ≡ false)
-
--- One field more: f.
-module _ (p : Packet) (b : Region) (Passed Then : ℕ → Type 0) (f k n : ℕ) (u : f < length p) (v : f < length b)
-    (and-f : ((j : ℕ) → Passed j → InRange p b j) → InRange p b f → (j : ℕ) → Then j → InRange p b j)
-    (tried : Tried p b Passed k n) where
-  tried-more : (t : Bool) → within (getD p f 0) (rangeAt b f) ≡ t → Tried p b Then (k + 1) (n + cond t 1 0)
-  tried-more true e = (omega (arith, tried .0), λ h. and-f (tried .1 (omega arith)) e, λ h. tried .2 (omega arith))
-  tried-more false e = (omega (arith, tried .0), λ h. absurd (omega (arith, tried .0)), λ h. outside-at p b f u v e)
-
-  pub tried-next : (m : ℕ) → m ≡ cond (within (getD p f 0) (rangeAt b f)) 1 0 → Tried p b Then (k + 1) (n + m)
-  tried-next m e = rw e (tried-more (within (getD p f 0) (rangeAt b f)) refl)

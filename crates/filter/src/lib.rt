@@ -9,10 +9,9 @@ use policy::number_of;
 use wire::count_at;
 use wire::rule_at;
 ghost use mathlib.Core.Path.{_≡_};
-ghost use mathlib.Core.Bool.{true, false, cond};
-ghost use Prim.Native.Nat.{_+_, _≤_, _<_};
+ghost use Prim.Native.Nat.{_≤_};
 ghost use lib.ListN.{length, drop};
-ghost use Rattle.policy.specs.Fields.{fields, countSize, limits};
+ghost use Rattle.policy.specs.Fields.{countSize, limits};
 ghost use Rattle.policy.specs.Ranges.{range, within};
 ghost use Rattle.policy.specs.Values.{packetOf};
 ghost use Rattle.wire.specs.Records.{rulesIn};
@@ -28,33 +27,15 @@ pub enum Verdict {
     Refused(Refusal),
 }
 
-// 1 for a value in its range and 0 for one outside, by one compare: what is below low wraps round to the highest numbers.
-fn count_within(x: u32, low: u32, high: u32) -> usize
+// One compare for both ends: what is below low wraps round to the highest numbers.
+fn is_within(x: u32, low: u32, high: u32) -> bool
     requires { ⌜ low ≤ high ⌝ }
-    ensures { λ r. ⌜ r ≡ cond (within x (range low high)) 1 0 ⌝ }
+    ensures { λ r. ⌜ r ≡ within x (range low high) ⌝ }
 {
-    if std::num::wrapping_sub_u32(x, low) <= high - low {
-        return 1;
-    }
-    0
+    std::num::wrapping_sub_u32(x, low) <= high - low
 }
 
-// Whether a rule with a field outside its range is left after field k: at the first field or at the last. Between them there is no
-// branch, since the machine can't foretell in which field a rule misses.
-fn is_left(k: usize, fitting: usize) -> bool
-    requires { ⌜ k < fields ⌝ }
-    ensures { λ r. ⌜ (r ≡ true → fitting ≤ k) × (r ≡ false → k + 1 ≡ fields → k < fitting) ⌝ }
-{
-    if k < fitting {
-        return false;
-    }
-    if k == 0 {
-        return true;
-    }
-    k + 1 == FIELDS
-}
-
-// The rules of a list of so many, one after another: a field outside its range ends a rule, and the next is tried.
+// The rules of a list of so many, one after another: a field outside its range ends a rule.
 fn scan(p: Packet, list: &[u8], count: usize) -> Verdict
     requires { ⌜ length (now list) ≡ listSize count ⌝ }
     ensures { λ r. ⌜ verdict r ≡ lookFrom 0 (packetOf p) (rulesIn count (drop countSize (now (list .entry)))) ⌝ }
@@ -66,10 +47,8 @@ fn scan(p: Packet, list: &[u8], count: usize) -> Verdict
             return Verdict::Refused(Refusal::RuleBad);
         }
         let bounds = r.bounds;
-        let mut fitting: usize = 0;
         for k in 0..FIELDS {
-            fitting += count_within(values[k], bounds.low_at(k), bounds.high_at(k));
-            if is_left(k, fitting) {
+            if !is_within(values[k], bounds.low_at(k), bounds.high_at(k)) {
                 continue 'rules;
             }
         }

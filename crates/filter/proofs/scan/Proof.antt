@@ -5,27 +5,27 @@ use native.Mathlib.Omega.{arith}
 use mathlib.Core.Path.{_≡_, refl, sym, _∙_, subst}
 use mathlib.Core.Bool.{true, false}
 use Prim.Native.Nat.{ℕ, _+_, _-_, _≤_, _<_}
-use lib.ListN.{length}
+use lib.ListN.{length, getD}
 use borrow.Author.Count.{below-more}
 use borrow.Author.Tests.{not-true, not-false}
 use Rattle.policy.specs.Fields.{fields, widths, highest}
-use Rattle.policy.specs.Ranges.{Region, Whole, inside}
+use Rattle.policy.specs.Ranges.{Region, Whole, within}
 use Rattle.policy.specs.Rules.{sound}
-use Rattle.policy.specs.Values.{regionOf, ruleOf}
+use Rattle.policy.specs.Values.{regionOf, rangeAt, ruleOf}
 use Rattle.policy.specs.declared.Rule.{Rule}
 use Rattle.policy.proofs.Moves.{rule-proper, proper-whole}
 use Rattle.wire.proofs.Records.{sound-fits, fits-length}
-use Rattle.filter.proofs.Insides.{InRange, Tried, range-whole, tried-next, all-inside}
+use Rattle.filter.proofs.Insides.{InRange, range-whole, outside-at, all-inside}
 use Rattle.filter.proofs.Lookups.{Left, left-all, bad-rule, rule-fits, rule-misses, none-fits}
 use Rattle.filter.proofs.scan.Statement.{statement}
 use Rattle.filter.proofs.scan.Tie as tie
 
 abbrev Inv-loop : tie.InvT-loop
-Inv-loop list count values i₀ r bounds fitting₀ k₀ i fitting k =
-    (i ≡ i₀) × (k ≤ fields) × (k ≡ fields → fitting ≡ k) × Tried values (regionOf bounds) (λ j. j < k) k fitting
+Inv-loop list count values i₀ r bounds k₀ i k =
+    (i ≡ i₀) × (k ≤ fields) × ((j : ℕ) → j < k → InRange values (regionOf bounds) j)
 
 abbrev μ-loop : tie.MeasureT-loop
-μ-loop list count values i₀ r bounds fitting₀ k₀ i fitting k = fields - k
+μ-loop list count values i₀ r bounds k₀ i k = fields - k
 
 abbrev Inv-rules : tie.InvT-rules
 Inv-rules list count values i₀ i = (i ≤ count) × Left values list count i
@@ -62,23 +62,15 @@ module _ (a : tie.At-loop Inv-loop μ-loop Inv-rules μ-rules) where
   packet-long : length (start .args .p .values) ≡ fields
   packet-long = search needs
 
-  -- Fewer fields in their ranges than were tried: the next rule.
-  passed : inside (start .args .p .values) region ≡ false → Inv-rules (start .args .list .now) (start .args .count) (start .args .p .values) 0 (a .loop .i + 1)
-  passed f =
+  -- A field outside its range: the next rule is tried.
+  passed : (k : ℕ) → k < fields → within (getD (start .args .p .values) k 0) (rangeAt region k) ≡ false
+      → Inv-rules (start .args .list .now) (start .args .count) (start .args .p .values) 0 (a .loop .i + 1)
+  passed k h e =
+      let f = outside-at (start .args .p .values) region k (omega (arith, packet-long)) (omega (arith, region-long)) e in
       subst (λ (n : ℕ). Inv-rules (start .args .list .now) (start .args .count) (start .args .p .values) 0 (n + 1)) (sym (a .loop .inv .0)) (
         omega (arith, more),
         rule-misses (start .args .p .values) (start .args .list .now) (start .args .count) (turn .rules .i) (turn .rules .inv .1) more (ruleOf value) (a .before .before .before .before .rule-at .ensures) is-sound f,
       )
-
--- One field more is tried.
-module _ (c : tie.After-count-within Inv-loop μ-loop Inv-rules μ-rules) where
-  abbrev head : tie.At-loop Inv-loop μ-loop Inv-rules μ-rules
-  head = c .before .before .before .before
-
-  tried : Tried (start head .args .p .values) (region head) (λ j. j < head .loop .k + 1) (head .loop .k + 1) (head .loop .fitting + c .count-within .result)
-  tried =
-      tried-next (start head .args .p .values) (region head) (λ j. j < head .loop .k) (λ j. j < head .loop .k + 1) (head .loop .k) (head .loop .k) (head .loop .fitting) (omega (arith, packet-long head)) (omega (arith, region-long head)) (below-more (InRange (start head .args .p .values) (region head)) (head .loop .k)) (head .loop .inv .3) (c .count-within .result)
-      (rw (c .before .before .low-at .ensures .0, c .before .high-at .ensures .0) at (c .count-within .ensures))
 
 rules-holds : tie.Need-rules-holds Inv-loop μ-loop Inv-rules μ-rules
 rules-holds c = (search needs, left-all (c .before .before .args .p .values) (c .before .before .args .list .now) (c .before .before .args .count))
@@ -103,13 +95,13 @@ returns c =
     (sym (c .before .is-sound .ensures) ∙ not-true _ (c .if1 .taken))
 
 loop-holds : tie.Need-loop-holds Inv-loop μ-loop Inv-rules μ-rules
-loop-holds c = (refl, search needs, search needs, (search needs, λ e j h. absurd (omega arith), λ h. absurd (omega arith)))
+loop-holds c = (refl, search needs, λ j h. absurd (omega arith))
 
-mul-count-within : tie.Need-mul-count-within Inv-loop μ-loop Inv-rules μ-rules
-mul-count-within c = search needs
+mul-is-within : tie.Need-mul-is-within Inv-loop μ-loop Inv-rules μ-rules
+mul-is-within c = search needs
 
-array-read-count-within : tie.Need-array-read-count-within Inv-loop μ-loop Inv-rules μ-rules
-array-read-count-within c = search needs
+array-read-is-within : tie.Need-array-read-is-within Inv-loop μ-loop Inv-rules μ-rules
+array-read-is-within c = search needs
 
 low-at-requires : tie.Need-low-at-requires Inv-loop μ-loop Inv-rules μ-rules
 low-at-requires c κs = search needs
@@ -117,17 +109,11 @@ low-at-requires c κs = search needs
 high-at-requires : tie.Need-high-at-requires Inv-loop μ-loop Inv-rules μ-rules
 high-at-requires c κs = search needs
 
-count-within-requires : tie.Need-count-within-requires Inv-loop μ-loop Inv-rules μ-rules
-count-within-requires c κs =
+is-within-requires : tie.Need-is-within-requires Inv-loop μ-loop Inv-rules μ-rules
+is-within-requires c κs =
     let a = c .before .before .before in
     let h = range-whole (region a) (a .loop .k) (region-whole a) (omega (arith, region-long a)) in
     omega (arith, c .before .low-at .ensures .0, c .high-at .ensures .0)
-
-add-fitting : tie.Need-add-fitting Inv-loop μ-loop Inv-rules μ-rules
-add-fitting c = omega (arith, tried c .0)
-
-is-left-requires : tie.Need-is-left-requires Inv-loop μ-loop Inv-rules μ-rules
-is-left-requires c κs = search needs
 
 add-i : tie.Need-add-i Inv-loop μ-loop Inv-rules μ-rules
 add-i c = search needs
@@ -137,8 +123,8 @@ rules-less c = search needs
 
 rules-again : tie.Need-rules-again Inv-loop μ-loop Inv-rules μ-rules
 rules-again c =
-    let d = c .before .before in
-    passed (head d) (tried d .2 (omega (arith, c .before .is-left .ensures .0 (c .if2 .taken))))
+    let a = c .before .before .before .before .before in
+    passed a (a .loop .k) (omega arith) (rw (c .before .before .before .low-at .ensures .0, c .before .before .high-at .ensures .0) at (sym (c .before .is-within .ensures) ∙ not-true _ (c .if2 .taken)))
 
 add-k : tie.Need-add-k Inv-loop μ-loop Inv-rules μ-rules
 add-k c = search needs
@@ -148,16 +134,16 @@ loop-less c = search needs
 
 loop-again : tie.Need-loop-again Inv-loop μ-loop Inv-rules μ-rules
 loop-again c =
-    let d = c .before .before in
-    (head d .loop .inv .0, omega arith, λ e. omega (arith, tried d .0, c .before .is-left .ensures .1 (c .if2 .left) e), tried d)
+    let a = c .before .before .before .before .before in
+    let h = rw (c .before .before .before .low-at .ensures .0, c .before .before .high-at .ensures .0) at (sym (c .before .is-within .ensures) ∙ not-false _ (c .if2 .left)) in
+    (a .loop .inv .0, omega arith, below-more (InRange (start a .args .p .values) (region a)) (a .loop .k) (a .loop .inv .2) h)
 
 returns-2 : tie.Need-returns-2 Inv-loop μ-loop Inv-rules μ-rules
 returns-2 c =
     let a = c .before in
-    let f = a .loop .inv .2 (omega arith) in
     rw (a .loop .inv .0) (
     rule-fits (start a .args .p .values) (start a .args .list .now) (start a .args .count) (turn a .rules .i) (turn a .rules .inv .1) (more a) (ruleOf (value a)) (a .before .before .before .before .rule-at .ensures) (is-sound a)
-    (all-inside (start a .args .p .values) (region a) (packet-long a ∙ sym (region-long a)) (λ j h. a .loop .inv .3 .1 f j (omega (arith, packet-long a)))))
+    (all-inside (start a .args .p .values) (region a) (packet-long a ∙ sym (region-long a)) (λ j h. a .loop .inv .2 j (omega (arith, packet-long a)))))
 
 returns-3 : tie.Need-returns-3 Inv-loop μ-loop Inv-rules μ-rules
 returns-3 c =
@@ -180,13 +166,11 @@ scan-spec =
     is-sound-requires
     returns
     loop-holds
-    mul-count-within
-    array-read-count-within
+    mul-is-within
+    array-read-is-within
     low-at-requires
     high-at-requires
-    count-within-requires
-    add-fitting
-    is-left-requires
+    is-within-requires
     add-i
     rules-less
     rules-again
