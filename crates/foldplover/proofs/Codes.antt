@@ -24,11 +24,10 @@ tells (accepted n) (refused k) p q e = absurd (omega arith)
 tells (refused j) (accepted m) p q e = absurd (omega arith)
 tells (refused j) (refused k) p q e = ap refused (omega arith)
 
--- Two outcomes of calls for C with the same number had the same answer; and where the promises of the calls below allow one
--- answer only, there is one number only.
+-- Two calls for C gave the same number exactly if the calls below gave the same answer.
 module _ {P Q : Answer → Type 0} {n m : ℕ} (x : Coded P n) (y : Coded Q m) where
   pub number-tells : n ≡ m → x .answer ≡ y .answer
   number-tells e = said-once (x .answer) (y .answer) (tells (said (x .answer)) (said (y .answer)) (x .plain) (y .plain) (sym (x .number) ∙ (e ∙ y .number)))
 
-  pub coded-once : ((q s : Answer) → P q → Q s → q ≡ s) → n ≡ m
-  coded-once once = x .number ∙ (ap (λ (q : Answer). coded (said q)) (once (x .answer) (y .answer) (x .below) (y .below)) ∙ sym (y .number))
+  pub same-number : x .answer ≡ y .answer → n ≡ m
+  same-number e = x .number ∙ (ap (λ (q : Answer). coded (said q)) e ∙ sym (y .number))

@@ -1,2 +1,3 @@
 pub mod Codes
 pub mod Plain
+pub mod Once

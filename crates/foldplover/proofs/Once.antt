@@ -1,0 +1,41 @@
+-- Two outcomes of one call for C are equal: the number, and everything lent. Assumes nothing.
+use mathlib.Core.Path.{_≡_}
+use mathlib.Core.List.{List}
+use mathlib.Core.Bool.{Bool}
+use Prim.Native.Nat.{ℕ}
+use Rattle.policy.specs.Refusals.{Outcome}
+use Rattle.wire.specs.RecordCalls.{RecordRead, RecordWritten}
+use Rattle.wire.proofs.RecordCalls.{rule-once, record-once}
+use Rattle.sheet.specs.Split.{Split}
+use Rattle.sheet.specs.Join.{Join}
+use Rattle.sheet.proofs.Splits.{split-once}
+use Rattle.sheet.proofs.Joins.{join-once}
+use Rattle.planner.specs.Calls.{Call}
+use Rattle.planner.proofs.Calls.{call-once}
+use Rattle.foldplover.specs.Coded.{Coded}
+use Rattle.foldplover.proofs.Codes.{same-number}
+
+-- Move, the three edits and both list calls.
+pub call-number-once :
+    {A : Type 0} (bytes : A → List ℕ) (size : ℕ) (lent : Bool) (x : Outcome A) (out w : List ℕ) {n m : ℕ} {y z u v : List ℕ}
+    → Coded (λ q. Call bytes size lent x out w q y u) n → Coded (λ q. Call bytes size lent x out w q z v) m → (n ≡ m) × (y ≡ z) × (u ≡ v)
+call-number-once bytes size lent x out w a b =
+    let o = call-once bytes size lent x out w (a .below) (b .below) in
+    (same-number a b (o .0), o .1, o .2)
+
+pub split-number-once :
+    {s a b : List ℕ} {n m : ℕ} {a′ b′ a″ b″ : List ℕ} → Coded (λ q. Split s a b q a′ b′) n → Coded (λ q. Split s a b q a″ b″) m
+    → (n ≡ m) × (a′ ≡ a″) × (b′ ≡ b″)
+split-number-once x y = let o = split-once (x .below) (y .below) in (same-number x y (o .0), o .1, o .2)
+
+pub join-number-once :
+    {a b out : List ℕ} {n m : ℕ} {y z : List ℕ} → Coded (λ q. Join a b out q y) n → Coded (λ q. Join a b out q z) m → (n ≡ m) × (y ≡ z)
+join-number-once x y = let o = join-once (x .below) (y .below) in (same-number x y (o .0), o .1)
+
+pub rule-number-once :
+    {s ns : List ℕ} {n m : ℕ} {y z : List ℕ} → Coded (λ q. RecordRead s ns q y) n → Coded (λ q. RecordRead s ns q z) m → (n ≡ m) × (y ≡ z)
+rule-number-once x y = let o = rule-once (x .below) (y .below) in (same-number x y (o .0), o .1)
+
+pub record-number-once :
+    {ns out : List ℕ} {n m : ℕ} {y z : List ℕ} → Coded (λ q. RecordWritten ns out q y) n → Coded (λ q. RecordWritten ns out q z) m → (n ≡ m) × (y ≡ z)
+record-number-once x y = let o = record-once (x .below) (y .below) in (same-number x y (o .0), o .1)
