@@ -1,15 +1,15 @@
 -- What the group writer and the writing of all groups leave. Assumes nothing.
-use mathlib.Core.Path.{_≡_, refl, ap, sym, _∙_}
-use mathlib.Core.List.{List, [], _∷_, _++_, append-assoc}
+use mathlib.Core.Path.{_≡_, ap, sym, _∙_}
+use mathlib.Core.List.{List, _++_}
 use Prim.Native.Nat.{ℕ, zero, suc, _+_, _*_, _-_, _≤_, _<_}
 use native.Mathlib.Omega.{arith}
-use lib.ListN.{length, take, drop, length-append, length-drop, length-take, drop-of-length-le}
-use lib.Seq.{sets, sets-eq, take-all, take-add, drop-drop, length-sets, length-take-le}
+use lib.ListN.{length, take, drop, length-append, length-drop}
+use lib.Seq.{sets, take-all, take-add, drop-drop, length-sets, length-take-le}
 use Rattle.lists.specs.Lists.{Each}
-use Rattle.lists.proofs.Lists.{append-none, sets-append}
+use Rattle.lists.proofs.Lists.{sets-append}
 use Rattle.lists.proofs.Parts.{copied-sets, tail-sets}
 use Rattle.policy.specs.Fields.{boxSize, countSize}
-use Rattle.wire.specs.Numbers.{numberBytes, numberIn, Byte}
+use Rattle.wire.specs.Numbers.{numberBytes, Byte}
 use Rattle.wire.specs.Buffers.{zeroed, filled}
 use Rattle.wire.proofs.Buffers.{filled-is}
 use Rattle.wire.proofs.Numbers.{numberBytes-length, bytes-back, bytes-take, bytes-drop}

@@ -1,6 +1,6 @@
 -- What each arm of drafting one rule, and each turn of drafting many, gives. Assumes nothing.
 use mathlib.Core.Path.{_≡_, refl, ap, sym, _∙_}
-use mathlib.Core.List.{List, [], _∷_, _++_}
+use mathlib.Core.List.{List, _++_}
 use mathlib.Core.Bool.{Bool, true, false, cond}
 use Prim.Native.Nat.{ℕ, _+_, _*_, _-_, _≤_, _<_}
 use native.Mathlib.Omega.{arith}
@@ -17,10 +17,9 @@ use Rattle.wire.specs.Numbers.{numberBytes}
 use Rattle.wire.specs.Records.{boxesBytes, ruleIn}
 use Rattle.wire.proofs.Numbers.{numberBytes-length}
 use Rattle.groups.specs.Worked.{startAt, allowsAt, workedOf, Holds, WorkedOut, workSize}
-use Rattle.groups.specs.declared.Worked.{Worked}
 use Rattle.groups.specs.declared.Worked.the-variants.{Boxes, TooMany}
 use Rattle.sheet.specs.Pairs.{groupSize, groupBytes}
-use Rattle.draft.specs.Drafts.{Appended, stretch, Drafting, Bounded, Ends, Ready, DraftedGroups}
+use Rattle.draft.specs.Drafts.{Appended, stretch, Drafting, Bounded, Ready, DraftedGroups}
 use Rattle.draft.specs.declared.Drafted.{Drafted}
 use Rattle.draft.specs.declared.Drafted.the-variants.{Groups, TooManyPieces}
 use Rattle.draft.proofs.Drafts.{drafting-none, drafting-over, drafting-then, drafting-one-over, drafting-one, stretch-none, stretch-next, stretch-allow, stretch-deny, rules-sound-front}

@@ -1,6 +1,6 @@
 -- A pair sheet put together from the bytes of its order and the draft of its groups. Assumes nothing.
 use mathlib.Core.List.{List, _++_}
-use Prim.Native.Nat.{ℕ, zero, suc, _+_, _*_, _≤_}
+use Prim.Native.Nat.{ℕ, zero, suc, _≤_}
 use mathlib.Core.Path.{_≡_}
 use lib.ListN.{length, drop}
 use Rattle.policy.specs.Fields.{countSize}

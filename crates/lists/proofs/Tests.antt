@@ -1,5 +1,5 @@
 -- Laws on Bools. Assumes nothing.
-use mathlib.Core.Path.{_≡_, refl, sym, _∙_}
+use mathlib.Core.Path.{_≡_, refl, sym}
 use mathlib.Core.Bool.{Bool, true, false, _&&_, _||_}
 
 pub and-true : (b c : Bool) → (b && c) ≡ true → (b ≡ true) × (c ≡ true)

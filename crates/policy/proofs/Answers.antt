@@ -4,7 +4,7 @@ use mathlib.Core.Bool.{Bool, true, false, cond}
 use Prim.Native.Nat.{ℕ}
 use native.Mathlib.Omega.{arith}
 use lib.Dec.{eqb}
-use Rattle.policy.specs.Refusals.{numberOf, Outcome, accepted, refused, test, said}
+use Rattle.policy.specs.Refusals.{numberOf, Outcome, accepted, test, said}
 use Rattle.policy.specs.declared.Refusal.{Refusal}
 use Rattle.policy.specs.declared.Refusal.the-variants.{
   BufferShort,

@@ -1,5 +1,5 @@
 -- The boundary table's first twelve lines hold. Assumes nothing.
-use mathlib.Core.Path.{_≡_, refl}
+use mathlib.Core.Path.{refl}
 use Rattle.policy.specs.Fields.{highest}
 use Rattle.policy.specs.Ranges.{inside, fullOver}
 use Rattle.policy.specs.Cut.{pieces, cut, cutEach, group}

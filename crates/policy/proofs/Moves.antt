@@ -3,7 +3,7 @@
 use mathlib.Core.Path.{_≡_, refl, ap, sym, _∙_}
 use mathlib.Core.List.{List, [], _∷_, _++_, map}
 use mathlib.Core.Bool.{Bool, true, false, cond, not, _&&_, _||_, true≢false, false≢true}
-use Prim.Native.Nat.{ℕ, suc, _+_, _≤_}
+use Prim.Native.Nat.{ℕ, suc, _+_}
 use native.Mathlib.Omega.{arith}
 use lib.Dec.{leb, eqb}
 use borrow.Author.Tests.{leb-true, eqb-true, not-false}
@@ -244,15 +244,6 @@ denials-allow p (b ∷ bs) l n = go (inside p b) (denials-allow p bs l (suc n))
         → saysAllow (cond t (found n 0) (firstFrom (suc n) p (denials bs ++ l))) ≡ (not (t || anyHas p bs) && allows p l)
     go true h = refl
     go false h = h
-
--- one full allow rule allows the packets inside the limits
-pub full-allows : (p : Packet) → allows p (rule full 1 ∷ []) ≡ inside p full
-unfolding firstFrom
-full-allows p = go (inside p full)
-  where
-    go : (t : Bool) → saysAllow (cond t (found 0 1) nothing) ≡ t
-    go true = refl
-    go false = refl
 
 -- The moved pair forwards each packet exactly if the old pair did.
 pub moved-pair-forwards : (o : Order) (p : Packet) → faults (o .gate) ≡ 0 → complete (o .gate) ≡ true

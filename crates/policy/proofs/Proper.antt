@@ -2,7 +2,7 @@
 use mathlib.Core.Path.{_≡_, refl}
 use mathlib.Core.List.{List, [], _∷_, _++_, map}
 use mathlib.Core.Bool.{Bool, true, false, cond, false≢true}
-use Prim.Native.Nat.{ℕ, _≤_}
+use Prim.Native.Nat.{ℕ}
 use native.Mathlib.Omega.{arith}
 use lib.Dec.{leb}
 use borrow.Author.Tests.{leb-true, le-leb}
@@ -14,7 +14,7 @@ use Rattle.policy.specs.Ranges.{Region, Whole, Within, everyField, prope
 use Rattle.policy.specs.Rules.{Rule, isAllow}
 use Rattle.policy.specs.Cut.{group}
 use Rattle.policy.specs.Refusals.{faults}
-use Rattle.policy.specs.Move.{anew, slots, boxesOf, startOf, Order, moved}
+use Rattle.policy.specs.Move.{anew, slots, boxesOf, Order, moved}
 use Rattle.policy.specs.Demands.{Piece}
 use Rattle.policy.proofs.Groups.{group-inside}
 use Rattle.policy.proofs.Moves.{faults-cons, rule-proper, proper-whole}

@@ -1,6 +1,6 @@
 -- Cutting one box from another, and the group of a deny rule (01, Cutting one box from another). Assumes nothing.
 use mathlib.Core.List.{List, [], _∷_, _++_, map}
-use mathlib.Core.Bool.{Bool, true, false, cond, _&&_, _||_}
+use mathlib.Core.Bool.{Bool, false, cond, _&&_, _||_}
 use Prim.Native.Nat.{_+_, _-_, min, max}
 use lib.Dec.{leb, ltb}
 use Rattle.policy.specs.Ranges.{Range, range, Region, Packet, inside}

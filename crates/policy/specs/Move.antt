@@ -1,14 +1,14 @@
 -- The groups of a gate list, the moved pair, and when a move is refused (01, Cutting one box from another and Numbers given
 -- back). Assumes nothing.
 use mathlib.Core.List.{List, [], _∷_, _++_, map}
-use mathlib.Core.Bool.{Bool, true, false, cond, not, _||_}
+use mathlib.Core.Bool.{Bool, false, cond, not, _||_}
 use Prim.Native.Nat.{ℕ, _+_}
 use lib.Dec.{ltb}
 use lib.ListN.{length}
 use Rattle.policy.specs.Fields.{Limits}
 use Rattle.policy.specs.Ranges.{Region}
 use Rattle.policy.specs.Cut.{cutEach, group}
-use Rattle.policy.specs.Rules.{Rule, rule, isAllow, full, complete, allowsIn}
+use Rattle.policy.specs.Rules.{Rule, rule, isAllow, full, complete}
 use Rattle.policy.specs.Refusals.{given, orElse, faults}
 
 -- What an order sheet holds, and what a pair sheet holds.

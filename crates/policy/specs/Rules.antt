@@ -1,7 +1,7 @@
 -- Rules and lists: first match, completeness, and what a list and a pair do with a packet (01, The five fields).
 -- Assumes nothing.
 use mathlib.Core.List.{List, [], _∷_}
-use mathlib.Core.Bool.{Bool, true, false, cond, not, _&&_, _||_}
+use mathlib.Core.Bool.{Bool, false, cond, not, _&&_, _||_}
 use Prim.Native.Nat.{ℕ, suc}
 use lib.Dec.{leb, eqb}
 use Rattle.policy.specs.Fields.{highest}

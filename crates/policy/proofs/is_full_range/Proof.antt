@@ -2,8 +2,6 @@
 use borrow.Author.Tests.{eq-eqb, ne-eqb}
 use Rattle.policy.proofs.is_full_range.Statement.{statement}
 use Rattle.policy.proofs.is_full_range.Tie as tie
-use Rattle.policy.proofs.is_full_range.Reads as reads
-use Rattle.policy.proofs.is_full_range.Lts as lts
 
 returns : tie.Need-returns
 returns c = simp (ne-eqb _ _ (c .if1 .taken))

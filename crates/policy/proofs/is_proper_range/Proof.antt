@@ -2,8 +2,6 @@
 use borrow.Author.Tests.{le-leb, lt-leb}
 use Rattle.policy.proofs.is_proper_range.Statement.{statement}
 use Rattle.policy.proofs.is_proper_range.Tie as tie
-use Rattle.policy.proofs.is_proper_range.Reads as reads
-use Rattle.policy.proofs.is_proper_range.Lts as lts
 
 returns : tie.Need-returns
 returns c = simp (lt-leb _ _ (c .if1 .taken))

@@ -10,8 +10,6 @@ use Rattle.policy.specs.Values.{regionOf}
 use Rattle.policy.proofs.Values.{ranges-length, field-fails, field-passes, fields-done}
 use Rattle.policy.proofs.Box.is_proper.Statement.{statement}
 use Rattle.policy.proofs.Box.is_proper.Tie as tie
-use Rattle.policy.proofs.Box.is_proper.Reads as reads
-use Rattle.policy.proofs.Box.is_proper.Lts as lts
 
 abbrev Inv-loop : tie.InvT-loop
 Inv-loop self k₀ k =

@@ -6,8 +6,6 @@ use Rattle.policy.proofs.Values.{ranges-at, ranges-length}
 use Rattle.policy.specs.Fields.{fields}
 use Rattle.policy.proofs.Box.low_at.Statement.{statement}
 use Rattle.policy.proofs.Box.low_at.Tie as tie
-use Rattle.policy.proofs.Box.low_at.Reads as reads
-use Rattle.policy.proofs.Box.low_at.Lts as lts
 
 mul-result : tie.Need-mul-result
 mul-result c = search needs
