@@ -227,6 +227,18 @@ fn plant() -> Vec<u8> {
     sheet_of(&gate, 12)
 }
 
+// How many boxes the groups of a pair sheet have.
+fn boxes(order: &[u8], sheet: &[u8]) -> usize {
+    let mut at = order.len() + 2;
+    let mut sum = 0;
+    for _ in 0..number(&sheet[order.len()..at]) {
+        let n = number(&sheet[at..at + 2]) as usize;
+        sum += n;
+        at += 2 + BOX * n;
+    }
+    sum
+}
+
 pub fn run() {
     println!();
     println!("move: both planners write the same bytes; the library also clears its work buffer of {WORK} bytes");
@@ -237,7 +249,7 @@ pub fn run() {
         let mut work = vec![0u8; WORK];
         let answers: Vec<u32> = versions.iter().zip(&mut sheets).map(|((_, f), s)| f(order, s, &mut work)).collect();
         assert!(answers[0] == answers[1] && sheets[0] == sheets[1], "{what}: {answers:?}");
-        let boxes = plan(order, &mut sheets[1]).map_or(0, |n| (n - order.len() - 2) / BOX);
+        let boxes = boxes(order, &sheets[0]);
         compare(&format!("{what}, {boxes} boxes"), &versions, 1, |f| {
             std::hint::black_box(f(std::hint::black_box(order), &mut sheets[0], &mut work));
         });
