@@ -10,8 +10,9 @@ use Rattle.sheet.specs.Split.{Split}
 use Rattle.sheet.specs.Join.{Join}
 use Rattle.sheet.proofs.Splits.{split-once}
 use Rattle.sheet.proofs.Joins.{join-once}
-use Rattle.planner.specs.Calls.{Call}
+use Rattle.planner.specs.Calls.{Call, Checks}
 use Rattle.planner.proofs.Calls.{call-once}
+use Rattle.planner.proofs.Checking.{check-once}
 use Rattle.foldplover.specs.Coded.{Coded}
 use Rattle.foldplover.proofs.Codes.{same-number}
 
@@ -22,6 +23,10 @@ pub call-number-once :
 call-number-once bytes size lent x out w a b =
     let o = call-once bytes size lent x out w (a .below) (b .below) in
     (same-number a b (o .0), o .1, o .2)
+
+pub check-number-once :
+    (s w : List ℕ) {n m : ℕ} {u v : List ℕ} → Coded (λ q. Checks s w q u) n → Coded (λ q. Checks s w q v) m → (n ≡ m) × (u ≡ v)
+check-number-once s w x y = let o = check-once s w (x .below) (y .below) in (same-number x y (o .0), o .1)
 
 pub split-number-once :
     {s a b : List ℕ} {n m : ℕ} {a′ b′ a″ b″ : List ℕ} → Coded (λ q. Split s a b q a′ b′) n → Coded (λ q. Split s a b q a″ b″) m

@@ -11,7 +11,7 @@ use borrow.Author.Tests.{leb-true}
 use Rattle.policy.specs.Fields.{limits, recordSize}
 use Rattle.policy.specs.Rules.{Rule}
 use Rattle.policy.specs.Refusals.{Outcome, accepted, refused, test, said}
-use Rattle.policy.specs.Move.{Order}
+use Rattle.policy.specs.Move.{Order, Pair}
 use Rattle.policy.specs.declared.Answer.{Answer}
 use Rattle.policy.specs.declared.Answer.the-variants.{Length, Refused}
 use Rattle.policy.proofs.Answers.{test-accepted}
@@ -20,7 +20,8 @@ use Rattle.sheet.specs.Sections.{sectionBytes}
 use Rattle.sheet.specs.Orders.{orderBytes, orderIn, gateSize, ownSize, orderSize}
 use Rattle.sheet.specs.Split.{splitOf, splitSaid, splitGate, Split}
 use Rattle.sheet.specs.Join.{joinOf, joinSaid, joinSheet, Join}
-use Rattle.planner.specs.Calls.{roomFor, Call}
+use Rattle.groups.specs.Worked.{workSize}
+use Rattle.planner.specs.Calls.{roomFor, Call, checkOf, yes, Checks}
 use Rattle.planner.proofs.Lengths.{filled-within, call-length}
 use Rattle.filter.specs.Lookup.{refusalBase}
 use Rattle.foldplover.specs.Coded.{Plain}
@@ -31,6 +32,15 @@ pub call-plain :
     → Call bytes size (roomFor size out && b) x out w q out′ w′ → length out′ ≡ length out → size < refusalBase → Plain (said q)
 call-plain bytes size b x out (Length n) c e h = let k = call-length bytes size b x out c e n refl in omega arith
 call-plain bytes size b x out (Refused f) c e h = tt
+
+-- Check.
+yes-plain : (x : Outcome Pair) → Plain (yes x)
+unfolding yes
+yes-plain (accepted p) = omega arith
+yes-plain (refused k) = tt
+
+pub check-plain : {s w w′ : List ℕ} {q : Answer} → Checks s w q w′ → Plain (said q)
+check-plain {s = s} {w = w} x = subst Plain (sym (x .answer)) (yes-plain (test (roomFor (workSize limits) w) 1 (checkOf limits s)))
 
 -- The record calls.
 answered-plain : (n : ℕ) → n < refusalBase → (x : Outcome Rule) → Plain (answered n x)

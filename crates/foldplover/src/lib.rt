@@ -10,7 +10,7 @@ ghost use Rattle.policy.specs.Refusals.{said};
 ghost use Rattle.wire.specs.RecordCalls.{RecordRead, RecordWritten};
 ghost use Rattle.sheet.specs.Split.{Split};
 ghost use Rattle.sheet.specs.Join.{Join};
-ghost use Rattle.planner.specs.Calls.{Moves};
+ghost use Rattle.planner.specs.Calls.{Moves, Checks, Lists, cellBytes, cellSize, gateBytes, gateSize};
 ghost use Rattle.filter.specs.Lookup.{lookup, lookupNumber};
 ghost use Rattle.foldplover.specs.Coded.{coded, Plain, Coded};
 
@@ -29,6 +29,27 @@ pub extern "C" fn foldplover_move(order: &[u8], sheet: &mut [u8], work: &mut [u8
     ensures { λ r. ⌜ Coded (λ q. Moves (now (order .entry)) (now (sheet .entry)) (now (work .entry)) q (now (sheet .exit)) (now (work .exit))) r ⌝ }
 {
     answer_number(planner::move_order(order, sheet, work))
+}
+
+#[no_mangle]
+pub extern "C" fn foldplover_check(sheet: &[u8], work: &mut [u8]) -> u32
+    ensures { λ r. ⌜ Coded (λ q. Checks (now (sheet .entry)) (now (work .entry)) q (now (work .exit))) r ⌝ }
+{
+    answer_number(planner::check(sheet, work))
+}
+
+#[no_mangle]
+pub extern "C" fn foldplover_cell_list(sheet: &[u8], list: &mut [u8], work: &mut [u8]) -> u32
+    ensures { λ r. ⌜ Coded (λ q. Lists cellBytes cellSize (now (sheet .entry)) (now (list .entry)) (now (work .entry)) q (now (list .exit)) (now (work .exit))) r ⌝ }
+{
+    answer_number(planner::cell_list(sheet, list, work))
+}
+
+#[no_mangle]
+pub extern "C" fn foldplover_gate_list(sheet: &[u8], list: &mut [u8], work: &mut [u8]) -> u32
+    ensures { λ r. ⌜ Coded (λ q. Lists gateBytes gateSize (now (sheet .entry)) (now (list .entry)) (now (work .entry)) q (now (list .exit)) (now (work .exit))) r ⌝ }
+{
+    answer_number(planner::gate_list(sheet, list, work))
 }
 
 #[no_mangle]
