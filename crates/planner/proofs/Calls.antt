@@ -1,15 +1,14 @@
 -- What the tests of the lent buffers and the clearing of the work buffer make of a call's inner part; and two outcomes of one
 -- call are equal. Assumes nothing.
-use mathlib.Core.Path.{_≡_, refl, ap, sym, _∙_}
+use mathlib.Core.Path.{_≡_, sym, _∙_}
 use mathlib.Core.List.{List}
 use mathlib.Core.Bool.{Bool, true, false, _&&_}
 use Prim.Native.Nat.{ℕ, _≤_, _<_}
-use lib.Dec.{leb}
 use lib.ListN.{length, drop}
 use borrow.Author.Tests.{le-leb, lt-leb}
 use Rattle.lists.proofs.Tests.{and-both}
 use Rattle.policy.specs.Fields.{limits}
-use Rattle.policy.specs.Refusals.{Outcome, test}
+use Rattle.policy.specs.Refusals.{Outcome}
 use Rattle.policy.specs.declared.Answer.{Answer}
 use Rattle.policy.specs.declared.Answer.the-variants.{Refused}
 use Rattle.policy.specs.declared.Refusal.the-variants.{BufferShort}

@@ -24,7 +24,7 @@ use Rattle.groups.specs.Worked.{workSize}
 use Rattle.sheet.specs.Pairs.{groupsBytes, pairIn, pairBytes}
 use Rattle.sheet.specs.Readers.{listsOf, pairOf, pairHeard, PairPlace, PairPlaced}
 use Rattle.sheet.specs.declared.PairParts.the-variants as P
-use Rattle.sheet.proofs.Pairs.{PairGood, pair-back}
+use Rattle.sheet.proofs.Pairs.{pair-back}
 use Rattle.sheet.proofs.Accepted.{PairAccepted}
 use Rattle.draft.specs.Drafts.{DraftedGroups, draftSize}
 use Rattle.draft.specs.declared.Drafted.the-variants as D

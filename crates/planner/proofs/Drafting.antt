@@ -1,47 +1,27 @@
 -- What drafting the groups of all of A gives, whichever call does it: 6; or how many boxes there are and, while they are
 -- within the total together with the own rules, the bytes of the moved pair's groups. Assumes nothing.
-use mathlib.Core.Path.{_≡_, refl, ap, sym, _∙_}
-use mathlib.Core.List.{List, [], _∷_, _++_, map}
-use mathlib.Core.Bool.{Bool, true, false}
-use Prim.Native.Nat.{ℕ, suc, _+_, _*_, _-_, _<_, _≤_}
+use mathlib.Core.Path.{_≡_, sym}
+use mathlib.Core.List.{List}
+use mathlib.Core.Bool.{true, false}
+use Prim.Native.Nat.{ℕ, _+_, _-_, _≤_}
 use native.Mathlib.Omega.{arith}
-use lib.Dec.{ltb}
-use lib.ListN.{length, take, drop, length-append, length-drop, take-append-drop}
-use lib.Seq.{sets, sets-eq, take-at, drop-at, drop-drop}
-use borrow.Author.Tests.{lt-ltb, le-ltb}
-use Rattle.lists.specs.Lists.{Each, every}
-use Rattle.lists.proofs.Parts.{tail-whole}
-use Rattle.policy.specs.Fields.{boxSize, countSize, recordSize, highest, widths, limits}
-use Rattle.policy.specs.Ranges.{Region, proper}
-use Rattle.policy.specs.Rules.{Rule, sound, denies, allowsIn}
-use Rattle.policy.specs.Refusals.{Outcome, accepted, refused, andThen, unless, numberOf}
+use lib.ListN.{length, take, drop, length-drop}
+use lib.Seq.{sets, sets-eq, take-at}
+use borrow.Author.Tests.{le-ltb}
+use Rattle.policy.specs.Fields.{countSize, limits}
+use Rattle.policy.specs.Rules.{allowsIn}
+use Rattle.policy.specs.Refusals.{accepted}
 use Rattle.policy.specs.Move.{slotsOf, together, anyOver, work, room, Order, moved, listRefusal, moveRefusal}
-use Rattle.policy.specs.declared.Answer.{Answer}
-use Rattle.policy.specs.declared.Answer.the-variants.{Length, Refused}
-use Rattle.policy.specs.declared.Refusal.{Refusal}
-use Rattle.policy.specs.declared.Refusal.the-variants.{TooManyPieces, TooManyBoxes}
+use Rattle.policy.specs.declared.Refusal.the-variants.{TooManyPieces}
 use Rattle.policy.proofs.Numbers.{orElse-both}
-use Rattle.policy.proofs.Edits.{move-accepted}
-use Rattle.wire.specs.Numbers.{numberBytes, Byte}
-use Rattle.wire.specs.Records.{Fits, boxesBytes, rulesIn}
-use Rattle.wire.specs.Buffers.{filled}
-use Rattle.wire.proofs.Records.{rulesIn-length, proper-fits, boxesBytes-length}
-use Rattle.wire.proofs.Numbers.{numberBytes-length}
+use Rattle.wire.specs.Records.{rulesIn}
+use Rattle.wire.proofs.Records.{rulesIn-length}
 use Rattle.groups.specs.Worked.{workSize}
-use Rattle.sheet.specs.Sections.{sectionSize, countIn}
-use Rattle.sheet.specs.Orders.{order, orderIn, orderBytes}
-use Rattle.sheet.specs.Pairs.{groupSize, groupBytes, groupsBytes, pairBytes, pairSize}
+use Rattle.sheet.specs.Pairs.{groupsBytes}
 use Rattle.sheet.specs.Readers.{rulesOf, listsOf, ListsPlace}
-use Rattle.sheet.proofs.Outcomes.{each-every, faultless}
-use Rattle.sheet.proofs.Counts.{counted}
-use Rattle.sheet.proofs.Pairs.{ProperGroup, PairGood, denies-most}
-use Rattle.sheet.proofs.Accepted.{OrderAccepted}
-use Rattle.draft.specs.Drafts.{stretch, groupsIn, Drawn, Drafting, Bounded, Ready, DraftedGroups, draftSize}
-use Rattle.draft.specs.Sheets.{Laid, sheetOf}
+use Rattle.sheet.proofs.Outcomes.{faultless}
+use Rattle.draft.specs.Drafts.{stretch, Drawn, Ready, DraftedGroups, draftSize}
 use Rattle.draft.specs.declared.Drafted.the-variants as D
-use Rattle.planner.specs.Calls.{planOf, moveOf, written, lengthOf}
-use Rattle.planner.specs.Steps.{Writes, Planned}
-use Rattle.planner.proofs.Good.{moved-good, pair-short}
 
 -- A and B of a sheet, as reading has found them.
 pub record ListsSound (s : List ℕ) (n m middle third : ℕ) : Type 0 where

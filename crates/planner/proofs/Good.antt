@@ -1,34 +1,33 @@
 -- What an accepted move writes is a pair sheet: its groups are proper and counted, it fits its buffer, and its lists are lists.
 -- Assumes nothing.
-use mathlib.Core.Path.{_≡_, refl, ap, sym, _∙_}
+use mathlib.Core.Path.{_≡_, refl, ap, _∙_}
 use mathlib.Core.List.{List, [], _∷_, _++_}
 use mathlib.Core.Bool.{Bool, true, false, false≢true}
 use Prim.Native.Nat.{ℕ, suc, _+_, _*_, _-_, _<_, _≤_}
 use native.Mathlib.Omega.{arith}
-use lib.Dec.{leb, ltb}
 use lib.ListN.{length, length-append, length-map}
 use borrow.Author.Tests.{ltb-false, le-ltb}
 use Rattle.lists.specs.Lists.{Each, every}
 use Rattle.lists.proofs.Tests.{and-both}
 use Rattle.lists.proofs.Lists.{each-append, each-imp}
-use Rattle.policy.specs.Fields.{highest, widths, boxSize, recordSize, countSize, Limits}
+use Rattle.policy.specs.Fields.{highest, widths, boxSize, countSize, Limits}
 use Rattle.policy.specs.Ranges.{Region, proper, everyField, fullOver}
-use Rattle.policy.specs.Rules.{Rule, rule, full, sound, complete, denies}
-use Rattle.policy.specs.Refusals.{given, orElse, faults}
-use Rattle.policy.specs.Move.{slots, slotsOf, startOf, boxesOf, together, work, room, Order, Pair, moved, denials, gateList, cellList, badCount, listRefusal, moveRefusal}
+use Rattle.policy.specs.Rules.{Rule, sound, complete}
+use Rattle.policy.specs.Refusals.{faults}
+use Rattle.policy.specs.Move.{slotsOf, startOf, boxesOf, together, work, room, Order, Pair, moved, denials, gateList, cellList, listRefusal, moveRefusal}
 use Rattle.policy.proofs.Numbers.{orElse-zero, orElse-both, given-zero}
 use Rattle.policy.proofs.Proper.{Proper, moved-proper}
-use Rattle.policy.proofs.Edits.{Accepted, move-accepted, list-accepted, slots-length, faults-append}
+use Rattle.policy.proofs.Edits.{move-accepted, list-accepted, slots-length, faults-append}
 use Rattle.wire.specs.Records.{Fits}
-use Rattle.wire.proofs.Records.{proper-fits, boxesBytes-length, RuleFits}
+use Rattle.wire.proofs.Records.{proper-fits, boxesBytes-length}
 use Rattle.wire.proofs.Numbers.{numberBytes-length}
-use Rattle.sheet.specs.Sections.{sectionSize, sectionBytes}
-use Rattle.sheet.specs.Orders.{orderBytes, orderSize}
+use Rattle.sheet.specs.Sections.{sectionSize}
+use Rattle.sheet.specs.Orders.{orderBytes}
 use Rattle.sheet.specs.Pairs.{groupBytes, groupsBytes, pairBytes, pairSize}
 use Rattle.sheet.proofs.Sections.{sectionBytes-length}
 use Rattle.sheet.proofs.Outcomes.{each-every, faultless}
-use Rattle.sheet.proofs.Orders.{ListFits, faultless-fits}
-use Rattle.sheet.proofs.Pairs.{ProperGroup, GroupsGood, PairGood, denies-most}
+use Rattle.sheet.proofs.Orders.{faultless-fits}
+use Rattle.sheet.proofs.Pairs.{ProperGroup, PairGood, denies-most}
 
 every-each : {A : Type 0} (f : A → Bool) (l : List A) → Each (λ (a : A). f a ≡ true) l → every f l ≡ true
 unfolding Each every

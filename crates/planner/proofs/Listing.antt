@@ -13,24 +13,24 @@ use Rattle.policy.specs.Fields.{boxSize, countSize, recordSize, actionSize, lim
 use Rattle.policy.specs.Ranges.{Region}
 use Rattle.policy.specs.Rules.{Rule, rule, full, denies}
 use Rattle.policy.specs.Refusals.{accepted}
-use Rattle.policy.specs.Move.{together, denials, Pair, gateList, cellList}
+use Rattle.policy.specs.Move.{together, denials, Pair, gateList}
 use Rattle.policy.specs.declared.Answer.the-variants.{Length, Refused}
 use Rattle.policy.specs.declared.Refusal.{Refusal}
 use Rattle.wire.specs.Numbers.{numberBytes, Byte}
-use Rattle.wire.specs.Records.{boxIn, boxBytes, boxesIn, recordBytes, recordsBytes, rulesIn}
-use Rattle.wire.specs.Buffers.{zeroed, filled}
+use Rattle.wire.specs.Records.{boxIn, boxesIn, recordBytes, recordsBytes}
+use Rattle.wire.specs.Buffers.{zeroed}
 use Rattle.wire.proofs.Numbers.{numberBytes-length, bytes-drop}
 use Rattle.wire.proofs.Records.{box-written-back, boxesIn-length, rulesIn-length, records-written-back}
 use Rattle.wire.proofs.Buffers.{filled-is, filled-front}
 use Rattle.groups.specs.Worked.{workSize}
-use Rattle.sheet.specs.Sections.{countIn, sectionSize, sectionBytes}
+use Rattle.sheet.specs.Sections.{countIn, sectionBytes}
 use Rattle.sheet.specs.Pairs.{groupSize, groupBoxes}
 use Rattle.sheet.specs.Readers.{rulesOf, groupsFrom, pairOf, pairHeard, PairPlace}
 use Rattle.sheet.specs.declared.PairParts.the-variants as P
 use Rattle.sheet.proofs.Sections.{sectionBytes-length}
 use Rattle.sheet.proofs.Orders.{faultless-fits}
-use Rattle.planner.specs.Calls.{written, lengthOf, checkOf, Call, cellBytes, cellSize, gateBytes, gateSize}
-use Rattle.planner.specs.Steps.{Writes, CheckRead, boxRecords, boxCount, groupRecords, ListPut}
+use Rattle.planner.specs.Calls.{written, lengthOf, checkOf, Call, cellBytes, gateBytes, gateSize}
+use Rattle.planner.specs.Steps.{CheckRead, boxRecords, boxCount, groupRecords, ListPut}
 use Rattle.planner.proofs.Good.{denials-length, gate-list-good}
 use Rattle.planner.proofs.Calls.{call-done}
 use Rattle.planner.proofs.Planning.{refuses}

@@ -1,41 +1,33 @@
 -- What each arm of a plan gives: the order sheet refused, 6, 7, or the pair sheet of the moved pair. Assumes nothing.
 use mathlib.Core.Path.{_≡_, refl, ap, sym, _∙_}
-use mathlib.Core.List.{List, [], _∷_, _++_, map}
-use mathlib.Core.Bool.{Bool, true, false}
-use Prim.Native.Nat.{ℕ, suc, _+_, _*_, _-_, _<_, _≤_}
+use mathlib.Core.List.{List, [], _∷_}
+use Prim.Native.Nat.{ℕ, _+_, _-_, _<_, _≤_}
 use native.Mathlib.Omega.{arith}
-use lib.Dec.{ltb}
-use lib.ListN.{length, take, drop, length-append, length-drop, take-append-drop}
-use lib.Seq.{sets, sets-eq, take-at, drop-at, drop-drop}
-use borrow.Author.Tests.{lt-ltb, le-ltb}
-use Rattle.lists.specs.Lists.{Each, every}
-use Rattle.lists.proofs.Parts.{tail-whole}
-use Rattle.policy.specs.Fields.{boxSize, countSize, recordSize, highest, widths, limits}
+use lib.ListN.{length, take, drop, length-append, take-append-drop}
+use borrow.Author.Tests.{lt-ltb}
+use Rattle.lists.specs.Lists.{Each}
+use Rattle.policy.specs.Fields.{boxSize, countSize, highest, widths, limits}
 use Rattle.policy.specs.Ranges.{Region, proper}
-use Rattle.policy.specs.Rules.{Rule, sound, denies, allowsIn}
-use Rattle.policy.specs.Refusals.{Outcome, accepted, refused, andThen, unless, numberOf}
-use Rattle.policy.specs.Move.{slots, slotsOf, boxesOf, together, anyOver, work, room, Order, Pair, moved, moveRefusal}
-use Rattle.policy.specs.declared.Answer.{Answer}
+use Rattle.policy.specs.Rules.{denies}
+use Rattle.policy.specs.Refusals.{Outcome, refused, numberOf}
+use Rattle.policy.specs.Move.{slotsOf, together, work, room, Order, moved, moveRefusal}
 use Rattle.policy.specs.declared.Answer.the-variants.{Length, Refused}
 use Rattle.policy.specs.declared.Refusal.{Refusal}
 use Rattle.policy.specs.declared.Refusal.the-variants.{TooManyPieces, TooManyBoxes}
-use Rattle.policy.proofs.Numbers.{orElse-both}
 use Rattle.policy.proofs.Edits.{move-accepted}
-use Rattle.wire.specs.Numbers.{numberBytes, Byte}
-use Rattle.wire.specs.Records.{Fits, boxesBytes, rulesIn}
+use Rattle.wire.specs.Records.{Fits, boxesBytes}
 use Rattle.wire.specs.Buffers.{filled}
 use Rattle.wire.proofs.Records.{rulesIn-length, proper-fits, boxesBytes-length}
 use Rattle.wire.proofs.Numbers.{numberBytes-length}
 use Rattle.groups.specs.Worked.{workSize}
-use Rattle.sheet.specs.Sections.{sectionSize, countIn}
-use Rattle.sheet.specs.Orders.{order, orderIn, orderBytes}
-use Rattle.sheet.specs.Pairs.{groupSize, groupBytes, groupsBytes, pairBytes, pairSize}
-use Rattle.sheet.specs.Readers.{rulesOf, listsOf, ListsPlace}
-use Rattle.sheet.proofs.Outcomes.{each-every, faultless}
+use Rattle.sheet.specs.Orders.{orderIn, orderBytes}
+use Rattle.sheet.specs.Pairs.{groupBytes, groupsBytes, pairBytes, pairSize}
+use Rattle.sheet.specs.Readers.{rulesOf, listsOf}
+use Rattle.sheet.proofs.Outcomes.{each-every}
 use Rattle.sheet.proofs.Counts.{counted}
 use Rattle.sheet.proofs.Pairs.{ProperGroup, PairGood, denies-most}
 use Rattle.sheet.proofs.Accepted.{OrderAccepted}
-use Rattle.draft.specs.Drafts.{stretch, groupsIn, Drawn, Drafting, Bounded, Ready, DraftedGroups, draftSize}
+use Rattle.draft.specs.Drafts.{DraftedGroups, draftSize}
 use Rattle.draft.specs.Sheets.{Laid, sheetOf}
 use Rattle.draft.specs.declared.Drafted.the-variants as D
 use Rattle.planner.specs.Calls.{planOf, moveOf, written, lengthOf}

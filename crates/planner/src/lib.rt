@@ -67,6 +67,14 @@ fn plan_with(order: &[u8], sheet: &mut [u8], draft: &mut [u8], work: &mut [u8]) 
     }
 }
 
+// The work buffer as every answer but 1 leaves it.
+fn clear(work: &mut [u8])
+    requires { ⌜ workSize limits ≤ length (now work) ⌝ }
+    ensures { λ r. ⌜ now (work .exit) ≡ zeroed 0 (workSize limits) (now (work .entry)) ⌝ }
+{
+    wire::zero(work, 0, WORK_BYTES);
+}
+
 fn plan(order: &[u8], sheet: &mut [u8], work: &mut [u8]) -> Answer
     requires { ⌜ (pairSize limits ≤ length (now sheet)) × (workSize limits ≤ length (now work)) ⌝ }
     ensures { λ r. ⌜ Planned (now (order .entry)) (now (sheet .entry)) (now (work .entry)) r (now (sheet .exit)) (now (work .exit)) ⌝ }
@@ -86,7 +94,7 @@ pub fn move_order(order: &[u8], sheet: &mut [u8], work: &mut [u8]) -> Answer
         return Answer::Refused(Refusal::BufferShort);
     }
     let answer = plan(order, sheet, work);
-    wire::zero(work, 0, WORK_BYTES);
+    clear(work);
     answer
 }
 
@@ -132,7 +140,7 @@ fn checked(sheet: &[u8], work: &mut [u8]) -> PairParts
 {
     let mut draft = [0u8; DRAFT_BYTES];
     let parts = compare(sheet, &mut draft, work);
-    wire::zero(work, 0, WORK_BYTES);
+    clear(work);
     parts
 }
 
@@ -156,7 +164,7 @@ pub fn check(sheet: &[u8], work: &mut [u8]) -> Answer
 }
 
 // The n boxes from a place of the sheet on, as deny records from a place of the list on.
-fn put_denials(list: &mut [u8], at: usize, sheet: &[u8], from: usize, n: usize)
+fn deny_boxes(list: &mut [u8], at: usize, sheet: &[u8], from: usize, n: usize)
     requires { ⌜ (from + boxSize * n ≤ length (now sheet)) × (at + recordSize * n ≤ length (now list)) ⌝ }
     ensures { λ r. ⌜ now (list .exit) ≡ sets (now (list .entry)) at (boxRecords n (drop from (now (sheet .entry)))) ⌝ }
 {
@@ -173,7 +181,7 @@ fn put_denials(list: &mut [u8], at: usize, sheet: &[u8], from: usize, n: usize)
 }
 
 // The boxes of so many groups from a place of the sheet on, as deny records from a place of the list on.
-fn put_groups(list: &mut [u8], at: usize, sheet: &[u8], from: usize, groups: usize)
+fn deny_groups(list: &mut [u8], at: usize, sheet: &[u8], from: usize, groups: usize)
     requires { ⌜ (from + (countSize * groups + boxSize * boxCount groups (drop from (now sheet))) ≤ length (now sheet)) × (at + recordSize * boxCount groups (drop from (now sheet)) ≤ length (now list)) ⌝ }
     ensures { λ r. ⌜ now (list .exit) ≡ sets (now (list .entry)) at (groupRecords groups (drop from (now (sheet .entry)))) ⌝ }
 {
@@ -183,7 +191,7 @@ fn put_groups(list: &mut [u8], at: usize, sheet: &[u8], from: usize, groups: usi
     while 0 < left {
         let n = wire::count_at(sheet, start);
         start += COUNT_BYTES;
-        put_denials(list, place, sheet, start, n);
+        deny_boxes(list, place, sheet, start, n);
         start += BOX_BYTES * n;
         place += RECORD_BYTES * n;
         left -= 1;
@@ -205,7 +213,7 @@ fn put_cell_list(
 {
     wire::put_count(list, 0, boxes + own);
     let groups = sheet::count_denies(sheet, gate);
-    put_groups(list, COUNT_BYTES, sheet, third + COUNT_BYTES, groups);
+    deny_groups(list, COUNT_BYTES, sheet, third + COUNT_BYTES, groups);
     let start = COUNT_BYTES + RECORD_BYTES * boxes;
     let first = middle + COUNT_BYTES;
     let end = start + bytes::copy(&sheet[first..third], &mut list[start..]);

@@ -13,8 +13,8 @@ slice-aggregate-compare c = search needs
 compare-requires : tie.Need-compare-requires
 compare-requires c κs = search needs
 
-zero-requires : tie.Need-zero-requires
-zero-requires c κs = search needs
+clear-requires : tie.Need-clear-requires
+clear-requires c κs = search needs
 
 same-length : tie.Need-same-length
 same-length c = search needs
@@ -22,8 +22,8 @@ same-length c = search needs
 returns : tie.Need-returns
 returns c =
     let x = c .before .before .before .before .before .before .before .compare .ensures in
-    (x .0, c .before .before .zero .ensures ∙ zeroed-same (workSize limits) _ _ (x .1))
+    (x .0, c .before .before .clear .ensures ∙ zeroed-same (workSize limits) _ _ (x .1))
 
 pub checked-spec : {M : Type 1} → statement M
 checked-spec =
-    tie.close (tie.spec slice-aggregate-compare compare-requires zero-requires same-length returns)
+    tie.close (tie.spec slice-aggregate-compare compare-requires clear-requires same-length returns)

@@ -16,11 +16,11 @@ put-count-requires c κs = search needs
 count-denies-requires : tie.Need-count-denies-requires
 count-denies-requires c κs = search needs
 
-add-put-groups : tie.Need-add-put-groups
-add-put-groups c = search needs
+add-deny-groups : tie.Need-add-deny-groups
+add-deny-groups c = search needs
 
-put-groups-requires : tie.Need-put-groups-requires
-put-groups-requires c κs =
+deny-groups-requires : tie.Need-deny-groups-requires
+deny-groups-requires c κs =
     let a = c .before .before .before .before .before .before .before .before .args in
     let g = cell-groups (c .before .before .before .before .before .before .before .before .pre .0) (bytes-all (a .sheet .now) (λ i. omega (arith, c .before .before .before .before .before .before .shared-slice-known .given i))) _ (c .before .count-denies .ensures) in
     (g .0, omega arith)
@@ -68,7 +68,7 @@ returns : tie.Need-returns
 returns c =
     let a = c .before .before .before .before .before .before .before .before .before .before .before .before .before .before .before .before .before .before .before .before .args in
     cell-put (c .before .before .before .before .before .before .before .before .before .before .before .before .before .before .before .before .before .before .before .before .pre .0) (bytes-all (a .sheet .now) (λ i. omega (arith, c .before .before .before .before .before .before .before .before .before .before .before .before .before .before .before .before .before .before .shared-slice-known .given i))) (a .list .now) _ _ _ _ _ _ _ _ (c .before .before .before .before .before .before .before .before .before .before .before .before .before .count-denies .ensures) refl (omega (arith, c .before .before .before .before .before .before .copy .ensures .0)) (omega arith) (omega arith)
-    (c .before .before .before .before .before .before .before .before .before .before .before .before .before .before .before .before .put-count .ensures) (c .before .before .before .before .before .before .before .before .before .before .before .put-groups .ensures) (c .before .before .before .before .before .before .copy .ensures .1) (c .before .before .zero .ensures)
+    (c .before .before .before .before .before .before .before .before .before .before .before .before .before .before .before .before .put-count .ensures) (c .before .before .before .before .before .before .before .before .before .before .before .deny-groups .ensures) (c .before .before .before .before .before .before .copy .ensures .1) (c .before .before .zero .ensures)
 
 pub put-cell-list-spec : {M : Type 1} → statement M
 put-cell-list-spec =
@@ -77,8 +77,8 @@ put-cell-list-spec =
     add-put-count
     put-count-requires
     count-denies-requires
-    add-put-groups
-    put-groups-requires
+    add-deny-groups
+    deny-groups-requires
     mul-start
     add-start
     add-first

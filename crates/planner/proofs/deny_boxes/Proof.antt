@@ -1,4 +1,4 @@
--- `put_denials` meets its contract: what is left of the boxes leads to all of them. Assumes nothing.
+-- `deny_boxes` meets its contract: what is left of the boxes leads to all of them. Assumes nothing.
 use borrow.Author.Needs.{needs}
 use native.Mathlib.Omega.{arith}
 use Prim.Native.Nat.{_+_, _*_, _≤_}
@@ -7,8 +7,8 @@ use Rattle.policy.specs.Fields.{boxSize, recordSize}
 use Rattle.wire.proofs.Numbers.{bytes-all}
 use Rattle.planner.specs.Steps.{boxRecords}
 use Rattle.planner.proofs.Listing.{Leads, leads-first, denials-next, denials-all}
-use Rattle.planner.proofs.put_denials.Statement.{statement}
-use Rattle.planner.proofs.put_denials.Tie as tie
+use Rattle.planner.proofs.deny_boxes.Statement.{statement}
+use Rattle.planner.proofs.deny_boxes.Tie as tie
 
 abbrev Inv-loop : tie.InvT-loop
 Inv-loop list₀ at sheet from n start₀ place₀ left₀ list start place left =
@@ -52,8 +52,8 @@ same-length c = search needs
 returns : tie.Need-returns Inv-loop μ-loop
 returns c = let h = c .before .loop in denials-all (h .left) _ (omega arith) (h .inv .2)
 
-pub put-denials-spec : {M : Type 1} → statement M
-put-denials-spec =
+pub deny-boxes-spec : {M : Type 1} → statement M
+deny-boxes-spec =
     tie.close
     (tie.spec
     Inv-loop

@@ -1,4 +1,4 @@
--- `put_groups` meets its contract: what is left of the groups leads to all of them. Assumes nothing.
+-- `deny_groups` meets its contract: what is left of the groups leads to all of them. Assumes nothing.
 use borrow.Author.Needs.{needs}
 use native.Mathlib.Omega.{arith}
 use Prim.Native.Nat.{_+_, _*_, _≤_}
@@ -7,8 +7,8 @@ use Rattle.policy.specs.Fields.{boxSize, countSize, recordSize}
 use Rattle.wire.proofs.Numbers.{bytes-all}
 use Rattle.planner.specs.Steps.{boxCount, groupRecords}
 use Rattle.planner.proofs.Listing.{Leads, leads-first, group-count, groups-next, groups-all}
-use Rattle.planner.proofs.put_groups.Statement.{statement}
-use Rattle.planner.proofs.put_groups.Tie as tie
+use Rattle.planner.proofs.deny_groups.Statement.{statement}
+use Rattle.planner.proofs.deny_groups.Tie as tie
 
 abbrev Inv-loop : tie.InvT-loop
 Inv-loop list₀ at sheet from groups start₀ place₀ left₀ list start place left =
@@ -27,8 +27,8 @@ count-at-requires c κs = search needs
 add-start : tie.Need-add-start Inv-loop μ-loop
 add-start c = search needs
 
-put-denials-requires : tie.Need-put-denials-requires Inv-loop μ-loop
-put-denials-requires c κs =
+deny-boxes-requires : tie.Need-deny-boxes-requires Inv-loop μ-loop
+deny-boxes-requires c κs =
     let h = c .before .before .before .loop in
     let s = c .before .before .before .before .before .before .args .sheet .now in
     let n = c .before .count-at in
@@ -70,7 +70,7 @@ loop-again c =
     let n = c .before .before .before .before .count-at in
     let z = group-count s (h .start) {left = h .left} (n .ensures .0) (c .before .before .before .before .before .loop-test .taken) in
     let all = bytes-all s (λ i. omega (arith, c .before .before .before .before .before .before .before .shared-slice-known .given i)) in
-    (omega arith, omega arith, groups-next s (h .start) (n .ensures .0) (c .before .before .before .before .before .loop-test .taken) all (omega arith) (h .inv .2) (c .before .before .put-denials .ensures))
+    (omega arith, omega arith, groups-next s (h .start) (n .ensures .0) (c .before .before .before .before .before .loop-test .taken) all (omega arith) (h .inv .2) (c .before .before .deny-boxes .ensures))
 
 same-length : tie.Need-same-length Inv-loop μ-loop
 same-length c = search needs
@@ -78,8 +78,8 @@ same-length c = search needs
 returns : tie.Need-returns Inv-loop μ-loop
 returns c = let h = c .before .loop in groups-all (h .left) _ (omega arith) (h .inv .2)
 
-pub put-groups-spec : {M : Type 1} → statement M
-put-groups-spec =
+pub deny-groups-spec : {M : Type 1} → statement M
+deny-groups-spec =
     tie.close
     (tie.spec
     Inv-loop
@@ -87,7 +87,7 @@ put-groups-spec =
     loop-holds
     count-at-requires
     add-start
-    put-denials-requires
+    deny-boxes-requires
     mul-start
     add-start-2
     mul-place
