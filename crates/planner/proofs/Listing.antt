@@ -18,7 +18,7 @@ use Rattle.policy.specs.declared.Answer.the-variants.{Length, Refused}
 use Rattle.policy.specs.declared.Refusal.{Refusal}
 use Rattle.wire.specs.Numbers.{numberBytes, Byte}
 use Rattle.wire.specs.Records.{boxIn, boxesIn, recordBytes, recordsBytes}
-use Rattle.wire.specs.Buffers.{zeroed}
+use Rattle.wire.specs.Buffers.{zeroed, filled}
 use Rattle.wire.proofs.Numbers.{numberBytes-length, bytes-drop}
 use Rattle.wire.proofs.Records.{box-written-back, boxesIn-length, rulesIn-length, records-written-back}
 use Rattle.wire.proofs.Buffers.{filled-is, filled-front}
@@ -151,6 +151,15 @@ unfolding groupsFrom together denials recordsBytes
 groups-all zero s h g = g .onward
 groups-all (suc left) s h g = absurd (omega arith)
 
+-- Three contents stored one behind another, and zeros behind them.
+three-filled : (out a b c last : List ℕ) (end most : ℕ) → end ≡ length (a ++ (b ++ c)) → end ≤ most → most ≤ length out
+    → last ≡ zeroed end most (sets (sets (sets out 0 a) (length a) b) (length a + length b) c) → last ≡ filled most out (a ++ (b ++ c))
+three-filled out a b c last end most l h k q =
+    let z : 0 + length a ≡ length a = omega arith in
+    let s : sets out 0 (a ++ (b ++ c)) ≡ sets (sets (sets out 0 a) (length a) b) (length a + length b) c =
+    rw (sets-append out 0 a (b ++ c), z, sets-append (sets out 0 a) (length a) b c) refl in
+    filled-is (a ++ (b ++ c)) out (sets out 0 (a ++ (b ++ c))) last end most l h k (rw l (sym (copied-sets out (a ++ (b ++ c)) (omega arith)))) (rw s q)
+
 -- The cell list: the count, the groups' boxes, the own rules copied behind them, and zeros.
 module _ {s : List ℕ} {n m middle third boxes : ℕ} (p : PairPlace s n m middle third boxes) (bytes : Each Byte s) where
   abbrev groups : ℕ
@@ -194,15 +203,11 @@ module _ {s : List ℕ} {n m middle third boxes : ℕ} (p : PairPlace s n m midd
       let lh : length head ≡ countSize = numberBytes-length countSize (boxes + m) in
       let u : y ≡ sets (take (length c₂ - start) (drop start c₂)) 0 own = u₀ ∙ copied-sets (take (length c₂ - start) (drop start c₂)) own (omega arith) in
       let v : take start c₂ ++ (y ++ drop (length c₂ - start) (drop start c₂)) ≡ sets c₂ start own = rw u (tail-sets c₂ start own (omega arith)) in
-      let w : sets c₂ start own ≡ sets list 0 (cellBytes pair) =
-      let z : 0 + length head ≡ countSize = omega arith in
-      let x : countSize + length boxed ≡ start = omega arith in
-      rw (cell-content, sets-append list 0 head (boxed ++ own), sets-append (sets list 0 head) (0 + length head) boxed own, z, x, f, e) refl in
-      let l : end ≡ length (cellBytes pair) = sym (ap length cell-content ∙ rw (length-append, length-append) (omega arith)) in
-      record {
-        answer = l;
-        result = filled-is (cellBytes pair) list (sets list 0 (cellBytes pair)) last end most l h k (rw l (sym (copied-sets list (cellBytes pair) (omega arith)))) (rw (← w, ← v) q);
-      }
+      let w : sets c₂ start own ≡ sets (sets (sets list 0 head) (length head) boxed) (length head + length boxed) own =
+      let x : length head + length boxed ≡ start = omega arith in
+      rw (x, f, e, lh) refl in
+      let l : end ≡ length (head ++ (boxed ++ own)) = sym (rw (length-append, length-append) (omega arith)) in
+      record { answer = rw cell-content l; result = rw cell-content (three-filled list head boxed own last end most l h k (rw (← w, ← v) q)) }
 
 -- The gate list: the count and the one rule, which fill it.
 pub gate-put : (p : Pair) (list c₁ last : List ℕ) (r : Rule) → gateSize ≤ length list → r ≡ rule full 1 → c₁ ≡ sets list 0 (numberBytes countSize 1)

@@ -187,14 +187,14 @@ fn deny_groups(list: &mut [u8], at: usize, sheet: &[u8], from: usize, groups: us
 {
     let mut start = from;
     let mut place = at;
-    let mut left = groups;
-    while 0 < left {
+    let mut more = groups;
+    while 0 < more {
         let n = wire::count_at(sheet, start);
         start += COUNT_BYTES;
         deny_boxes(list, place, sheet, start, n);
         start += BOX_BYTES * n;
         place += RECORD_BYTES * n;
-        left -= 1;
+        more -= 1;
     }
 }
 

@@ -11,12 +11,12 @@ use Rattle.planner.proofs.deny_groups.Statement.{statement}
 use Rattle.planner.proofs.deny_groups.Tie as tie
 
 abbrev Inv-loop : tie.InvT-loop
-Inv-loop list₀ at sheet from groups start₀ place₀ left₀ list start place left =
-    (start + (countSize * left + boxSize * boxCount left (drop start sheet)) ≤ length sheet) × (place + recordSize * boxCount left (drop start sheet) ≤ length list₀)
-    × Leads list₀ at (groupRecords groups (drop from sheet)) list place (groupRecords left (drop start sheet))
+Inv-loop list₀ at sheet from groups start₀ place₀ more₀ list start place more =
+    (start + (countSize * more + boxSize * boxCount more (drop start sheet)) ≤ length sheet) × (place + recordSize * boxCount more (drop start sheet) ≤ length list₀)
+    × Leads list₀ at (groupRecords groups (drop from sheet)) list place (groupRecords more (drop start sheet))
 
 abbrev μ-loop : tie.MeasureT-loop
-μ-loop list₀ at sheet from groups start₀ place₀ left₀ list start place left = left
+μ-loop list₀ at sheet from groups start₀ place₀ more₀ list start place more = more
 
 loop-holds : tie.Need-loop-holds Inv-loop μ-loop
 loop-holds c = (c .before .before .pre .0, c .before .before .pre .1, leads-first _ _ _)
@@ -32,7 +32,7 @@ deny-boxes-requires c κs =
     let h = c .before .before .before .loop in
     let s = c .before .before .before .before .before .before .args .sheet .now in
     let n = c .before .count-at in
-    let z = group-count s (h .start) {left = h .left} (n .ensures .0) (c .before .before .loop-test .taken) in
+    let z = group-count s (h .start) {left = h .more} (n .ensures .0) (c .before .before .loop-test .taken) in
     (omega arith, omega (arith, h .inv .2 .long))
 
 mul-start : tie.Need-mul-start Inv-loop μ-loop
@@ -43,7 +43,7 @@ add-start-2 c =
     let h = c .before .before .before .before .before .before .loop in
     let s = c .before .before .before .before .before .before .before .before .before .args .sheet .now in
     let n = c .before .before .before .before .count-at in
-    let z = group-count s (h .start) {left = h .left} (n .ensures .0) (c .before .before .before .before .before .loop-test .taken) in
+    let z = group-count s (h .start) {left = h .more} (n .ensures .0) (c .before .before .before .before .before .loop-test .taken) in
     omega arith
 
 mul-place : tie.Need-mul-place Inv-loop μ-loop
@@ -54,11 +54,11 @@ add-place c =
     let h = c .before .before .before .before .before .before .loop in
     let s = c .before .before .before .before .before .before .before .before .before .args .sheet .now in
     let n = c .before .before .before .before .count-at in
-    let z = group-count s (h .start) {left = h .left} (n .ensures .0) (c .before .before .before .before .before .loop-test .taken) in
+    let z = group-count s (h .start) {left = h .more} (n .ensures .0) (c .before .before .before .before .before .loop-test .taken) in
     omega (arith, h .inv .2 .long)
 
-sub-left : tie.Need-sub-left Inv-loop μ-loop
-sub-left c = search needs
+sub-more : tie.Need-sub-more Inv-loop μ-loop
+sub-more c = search needs
 
 loop-less : tie.Need-loop-less Inv-loop μ-loop
 loop-less c = search needs
@@ -68,7 +68,7 @@ loop-again c =
     let h = c .before .before .before .before .before .before .loop in
     let s = c .before .before .before .before .before .before .before .before .before .args .sheet .now in
     let n = c .before .before .before .before .count-at in
-    let z = group-count s (h .start) {left = h .left} (n .ensures .0) (c .before .before .before .before .before .loop-test .taken) in
+    let z = group-count s (h .start) {left = h .more} (n .ensures .0) (c .before .before .before .before .before .loop-test .taken) in
     let all = bytes-all s (λ i. omega (arith, c .before .before .before .before .before .before .before .shared-slice-known .given i)) in
     (omega arith, omega arith, groups-next s (h .start) (n .ensures .0) (c .before .before .before .before .before .loop-test .taken) all (omega arith) (h .inv .2) (c .before .before .deny-boxes .ensures))
 
@@ -76,7 +76,7 @@ same-length : tie.Need-same-length Inv-loop μ-loop
 same-length c = search needs
 
 returns : tie.Need-returns Inv-loop μ-loop
-returns c = let h = c .before .loop in groups-all (h .left) _ (omega arith) (h .inv .2)
+returns c = let h = c .before .loop in groups-all (h .more) _ (omega arith) (h .inv .2)
 
 pub deny-groups-spec : {M : Type 1} → statement M
 deny-groups-spec =
@@ -92,7 +92,7 @@ deny-groups-spec =
     add-start-2
     mul-place
     add-place
-    sub-left
+    sub-more
     loop-less
     loop-again
     same-length
