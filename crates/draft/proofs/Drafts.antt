@@ -21,7 +21,7 @@ use Rattle.draft.specs.Drafts.{alone, stretch, groupsIn, Drawn, Drafting
 use Rattle.draft.specs.declared.Drafted.{Drafted}
 use Rattle.draft.specs.declared.Drafted.the-variants.{Groups, TooManyPieces}
 
-groupsBytes-append : (x y : List (List Region)) → groupsBytes (x ++ y) ≡ groupsBytes x ++ groupsBytes y
+pub groupsBytes-append : (x y : List (List Region)) → groupsBytes (x ++ y) ≡ groupsBytes x ++ groupsBytes y
 unfolding groupsBytes
 groupsBytes-append [] y = refl
 groupsBytes-append (g ∷ x) y = rw (groupsBytes-append x y) (sym (append-assoc (groupBytes g) (groupsBytes x) (groupsBytes y)))
@@ -81,7 +81,7 @@ module _ (lim : Limits) (start allows : List Region) (draft : List ℕ) (at boxe
         );
       }
 
-rules-front : (i n : ℕ) (s : List ℕ) → i ≤ n → take i (rulesIn n s) ≡ rulesIn i s
+pub rules-front : (i n : ℕ) (s : List ℕ) → i ≤ n → take i (rulesIn n s) ≡ rulesIn i s
 unfolding rulesIn
 rules-front zero n s h = refl
 rules-front (suc i) zero s h = absurd (omega arith)

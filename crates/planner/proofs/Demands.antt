@@ -58,7 +58,7 @@ put-fits Insert s w b = ((ruleIn-fits s (omega (arith, eqb-true (length s) recor
 put-fits Delete s w b = (tt, omega arith)
 put-fits Replace s w b = ((ruleIn-fits s (omega (arith, eqb-true (length s) recordSize w)) b, tt), omega arith)
 
-changed-fits : (i : ℕ) (c : Change) (s : List ℕ) (l : List Rule) → wholeRecord c s ≡ true → Each Byte s → Each RuleFits l → length l < 65535 → ListFits (changed i (kindOf c s) l)
+pub changed-fits : (i : ℕ) (c : Change) (s : List ℕ) (l : List Rule) → wholeRecord c s ≡ true → Each Byte s → Each RuleFits l → length l < 65535 → ListFits (changed i (kindOf c s) l)
 changed-fits i c s l w b f n =
     let k : Kind = kindOf c s in
     let p = put-fits c s w b in

@@ -29,7 +29,7 @@ use Rattle.sheet.proofs.Outcomes.{each-every, faultless}
 use Rattle.sheet.proofs.Orders.{faultless-fits}
 use Rattle.sheet.proofs.Pairs.{ProperGroup, PairGood, denies-most}
 
-every-each : {A : Type 0} (f : A → Bool) (l : List A) → Each (λ (a : A). f a ≡ true) l → every f l ≡ true
+pub every-each : {A : Type 0} (f : A → Bool) (l : List A) → Each (λ (a : A). f a ≡ true) l → every f l ≡ true
 unfolding Each every
 every-each f [] h = refl
 every-each f (a ∷ l) h = and-both (f a) (every f l) (h .0) (every-each f l (h .1))

@@ -36,7 +36,7 @@ use Rattle.planner.proofs.Calls.{call-done}
 use Rattle.planner.proofs.Planning.{refuses}
 
 -- the records of two lists, and the deny rules of two lists of boxes, one behind the other
-records-append : (x y : List Rule) → recordsBytes (x ++ y) ≡ recordsBytes x ++ recordsBytes y
+pub records-append : (x y : List Rule) → recordsBytes (x ++ y) ≡ recordsBytes x ++ recordsBytes y
 unfolding recordsBytes
 records-append [] y = refl
 records-append (r ∷ x) y = rw (records-append x y) (sym (append-assoc (recordBytes r) (recordsBytes x) (recordsBytes y)))

@@ -172,7 +172,7 @@ around-over f q x m n y gs h =
     go false e k = kept-over q (drop (denies x + denies m) gs) ∙ sym (ap (λ (l : List Region). anyOver q (slots f l y)) (sym (same-before x m n e)) ∙ k)
 
 -- the faults of a changed list with no fault before are those of what was put in
-changed-faults : (x m n y : List Rule) → faults (x ++ (m ++ y)) ≡ 0 → faults (x ++ (n ++ y)) ≡ faults n
+pub changed-faults : (x m n y : List Rule) → faults (x ++ (m ++ y)) ≡ 0 → faults (x ++ (n ++ y)) ≡ faults n
 changed-faults x m n y h =
     let f = orElse-zero (faults x) (faults (m ++ y)) (sym (faults-append x (m ++ y)) ∙ h) in
     let g = orElse-zero (faults m) (faults y) (sym (faults-append m y) ∙ f .1) in
@@ -208,10 +208,10 @@ pub edit-as-fresh : (e : Edit) (o : Order) → edited e (moved o) ≡ moved (new
 edit-as-fresh e o = result (e .inGate) (e .place) (e .kind) o
 
 -- Its refusal is that of the fresh move, after 9.
-chain-gate : (c f d s r : ℕ) → s ≡ 0 → orElse c (orElse f (orElse d r)) ≡ orElse (orElse c (orElse f d)) (orElse s r)
+pub chain-gate : (c f d s r : ℕ) → s ≡ 0 → orElse c (orElse f (orElse d r)) ≡ orElse (orElse c (orElse f d)) (orElse s r)
 chain-gate c f d s r h = rw (orElse-skip s r h, orElse-assoc c (orElse f d) r, orElse-assoc f d r)
 
-chain-own : (c f d s r : ℕ) → s ≡ 0 → orElse c (orElse f (orElse d r)) ≡ orElse s (orElse (orElse c (orElse f d)) r)
+pub chain-own : (c f d s r : ℕ) → s ≡ 0 → orElse c (orElse f (orElse d r)) ≡ orElse s (orElse (orElse c (orElse f d)) r)
 chain-own c f d s r h = rw (orElse-skip s (orElse (orElse c (orElse f d)) r) h, orElse-assoc c (orElse f d) r, orElse-assoc f d r)
 
 module _ (lim : Limits) where

@@ -16,7 +16,7 @@ use Rattle.policy.specs.Edit.{Kind, out, put, front, gone, back, changed
 use Rattle.policy.specs.Demands.{groupAt, inGateAt, OthersKept, DenyOnly}
 use Rattle.policy.proofs.Edits.{slots-length, kept-boxes}
 
-denies-append : (x y : List Rule) → denies (x ++ y) ≡ denies x + denies y
+pub denies-append : (x y : List Rule) → denies (x ++ y) ≡ denies x + denies y
 unfolding denies
 denies-append [] y = omega arith
 denies-append (r ∷ x) y = go (isAllow r) (denies-append x y)

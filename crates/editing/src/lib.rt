@@ -1,0 +1,447 @@
+// Edit: a pair sheet changed at one place of A or of B. The new lists are written as an order sheet into a local buffer and
+// read there, and section C is drafted from kept groups and groups worked out anew, before anything lent is touched.
+use draft::DRAFT_BYTES;
+use draft::Drafted;
+use groups::WORK_BYTES;
+use planner::Change;
+use policy::Answer;
+use policy::BOX_BYTES;
+use policy::COUNT_BYTES;
+use policy::RECORD_BYTES;
+use policy::Refusal;
+use policy::TOTAL_MOST;
+use sheet::ORDER_BYTES;
+use sheet::OrderParts;
+use sheet::PAIR_BYTES;
+use sheet::PairParts;
+ghost use mathlib.Core.Path.{_≡_};
+ghost use mathlib.Core.Bool.{cond};
+ghost use Prim.Native.Nat.{_+_, _*_, _≤_, _<_};
+ghost use lib.Dec.{eqb};
+ghost use lib.ListN.{length, drop};
+ghost use lib.Seq.{sets};
+ghost use Rattle.policy.specs.Fields.{countSize, recordSize, limits};
+ghost use Rattle.sheet.specs.Orders.{orderSize};
+ghost use Rattle.sheet.specs.Sections.{sectionSize};
+ghost use Rattle.sheet.specs.Pairs.{pairBytes, pairSize};
+ghost use Rattle.sheet.specs.Readers.{rulesOf, listsOf};
+ghost use Rattle.groups.specs.Worked.{workSize};
+ghost use Rattle.draft.specs.Drafts.{Drafting, draftSize};
+ghost use Rattle.planner.specs.Edits.{wholeRecord, Edits};
+ghost use Rattle.planner.specs.Steps.{Writes};
+ghost use Rattle.editing.specs.Orders.{asked, takenBy, putBy, spliced, OrderChanged, ListsHeld};
+ghost use Rattle.editing.specs.Drafts.{boxesBefore, runSize, Keeping, keptSlots, AroundReady, DraftedAround, Inside, aroundOf, Finishing, slotted, slotsAround, partOf};
+ghost use Rattle.editing.specs.Edits.{Revised};
+
+// The largest order sheet, and a record more: a new count is tested once it is written.
+const EDIT_BYTES: usize = ORDER_BYTES + RECORD_BYTES;
+
+// Where the groups of an edited A come from: those before `earlier` and those from `later` up to `groups` are kept, and those
+// of the new rules from `place` up to `to` are worked out anew between them.
+struct Around {
+    earlier: usize,
+    later: usize,
+    groups: usize,
+    place: usize,
+    to: usize,
+}
+
+// How many boxes a draft has, and where it ends.
+struct Draft {
+    boxes: usize,
+    end: usize,
+}
+
+// How many rules a change takes out at its place, and how many it puts in.
+fn taken_by(change: Change) -> usize
+    ensures { λ r. ⌜ (r ≡ takenBy change) × (r ≤ 1) ⌝ }
+{
+    match change {
+        Change::Insert => 0,
+        Change::Delete => 1,
+        Change::Replace => 1,
+    }
+}
+
+fn put_by(change: Change) -> usize
+    ensures { λ r. ⌜ (r ≡ putBy change) × (r ≤ 1) ⌝ }
+{
+    match change {
+        Change::Insert => 1,
+        Change::Delete => 0,
+        Change::Replace => 1,
+    }
+}
+
+// The record, where one is put in, has a record's length.
+fn is_whole(change: Change, new: &[u8]) -> bool
+    ensures { λ r. ⌜ r ≡ wholeRecord change (now (new .entry)) ⌝ }
+{
+    match change {
+        Change::Insert => new.len() == RECORD_BYTES,
+        Change::Delete => true,
+        Change::Replace => new.len() == RECORD_BYTES,
+    }
+}
+
+// What goes with list A, or what goes with list B.
+fn pick(list: u32, a: usize, b: usize) -> usize
+    ensures { λ r. ⌜ r ≡ cond (eqb list 0) a b ⌝ }
+{
+    if list == 0 { a } else { b }
+}
+
+// The content from a place on, and where it ends.
+fn put_bytes(out: &mut [u8], at: usize, content: &[u8]) -> usize
+    requires { ⌜ at + length (now content) ≤ length (now out) ⌝ }
+    ensures { λ r. ⌜ (r ≡ at + length (now (content .entry))) × (now (out .exit) ≡ sets (now (out .entry)) at (now (content .entry))) ⌝ }
+{
+    bytes::copy(content, &mut out[at..]);
+    at + content.len()
+}
+
+// The lists with the section at `start` changed, at the front of the buffer; their length.
+fn splice(
+    out: &mut [u8],
+    lists: &[u8],
+    start: usize,
+    count: usize,
+    place: usize,
+    taken: usize,
+    new: &[u8],
+) -> usize
+    requires { ⌜ (count < 65536) × (start + countSize + recordSize * place + recordSize * taken ≤ length (now lists)) × (length (now lists) + length (now new) ≤ length (now out)) ⌝ }
+    ensures { λ r. ⌜ (r ≡ length (spliced (now (lists .entry)) start count place taken (now (new .entry)))) × (now (out .exit) ≡ sets (now (out .entry)) 0 (spliced (now (lists .entry)) start count place taken (now (new .entry)))) ⌝ }
+{
+    let first = start + COUNT_BYTES;
+    let from = first + RECORD_BYTES * place;
+    let next = from + RECORD_BYTES * taken;
+    put_bytes(out, 0, &lists[..start]);
+    wire::put_count(out, start, count);
+    put_bytes(out, first, &lists[first..from]);
+    let end = put_bytes(out, from, new);
+    put_bytes(out, end, &lists[next..])
+}
+
+// How many boxes the first n groups have.
+fn count_boxes(s: &[u8], n: usize) -> usize
+    requires { ⌜ runSize n (now s) ≤ length (now s) ⌝ }
+    ensures { λ r. ⌜ r ≡ boxesBefore n (now (s .entry)) ⌝ }
+{
+    let mut boxes: usize = 0;
+    let mut at: usize = 0;
+    let mut left = n;
+    while 0 < left {
+        let count = wire::count_at(s, at);
+        boxes += count;
+        at = at + COUNT_BYTES + BOX_BYTES * count;
+        left -= 1;
+    }
+    boxes
+}
+
+// The new lists as an order sheet at the front of the buffer, and its length; or 9, or 3 for the record.
+fn change_order(
+    pair: &[u8],
+    gate: usize,
+    own: usize,
+    middle: usize,
+    third: usize,
+    list: u32,
+    place: usize,
+    change: Change,
+    new: &[u8],
+    order: &mut [u8],
+) -> Answer
+    requires { ⌜ (ListsHeld (now pair) gate own middle third) × (orderSize limits + recordSize ≤ length (now order)) ⌝ }
+    ensures { λ r. ⌜ OrderChanged (asked list place change (now (new .entry))) (listsOf gate own middle (now (pair .entry))) (now (order .entry)) r (now (order .exit)) ⌝ }
+{
+    if 1 < list {
+        return Answer::Refused(Refusal::NoPlace);
+    }
+    let taken = taken_by(change);
+    let left = pick(list, gate, own) - taken;
+    if left < place {
+        return Answer::Refused(Refusal::NoPlace);
+    }
+    if !is_whole(change, new) {
+        return Answer::Refused(Refusal::LengthWrong);
+    }
+    let put = put_by(change);
+    let start = pick(list, 0, middle);
+    let size = RECORD_BYTES * put;
+    let end = splice(
+        order,
+        &pair[..third],
+        start,
+        left + put,
+        place,
+        taken,
+        &new[..size],
+    );
+    Answer::Length(end)
+}
+
+// The groups from one place up to another, as they stand, behind what the draft holds, unless the boxes, these among them, are
+// more than fit.
+fn keep(groups: &[u8], from: usize, to: usize, draft: &mut [u8], at: usize, boxes: usize) -> Draft
+    requires { ⌜ Keeping (now groups) from to (now draft) at boxes ⌝ }
+    ensures { λ r. ⌜ Drafting limits (keptSlots from to (now (groups .entry))) (now (draft .entry)) at boxes (Drafted.Groups (r .boxes) (r .end)) (now (draft .exit)) ⌝ }
+{
+    let before = count_boxes(groups, from);
+    let all = count_boxes(groups, to);
+    let sum = boxes + (all - before);
+    if TOTAL_MOST < sum {
+        return Draft {
+            boxes: sum,
+            end: at,
+        };
+    }
+    let start = COUNT_BYTES * from + BOX_BYTES * before;
+    let end = COUNT_BYTES * to + BOX_BYTES * all;
+    let last = put_bytes(draft, at, &groups[start..end]);
+    Draft {
+        boxes: sum,
+        end: last,
+    }
+}
+
+// The groups of the new A: kept, worked out anew, kept.
+fn draft_around(
+    groups: &[u8],
+    rules: &[u8],
+    around: Around,
+    draft: &mut [u8],
+    work: &mut [u8],
+) -> Drafted
+    requires { ⌜ AroundReady (now groups) (now rules) around (now draft) (now work) ⌝ }
+    ensures { λ r. ⌜ DraftedAround (now (groups .entry)) (now (rules .entry)) around (now (draft .entry)) (now (work .entry)) r (now (draft .exit)) (now (work .exit)) ⌝ }
+{
+    let front = keep(groups, 0, around.earlier, draft, 0, 0);
+    match draft::draft_groups(
+        rules,
+        around.place,
+        around.to,
+        draft,
+        front.end,
+        front.boxes,
+        work,
+    ) {
+        Drafted::TooManyPieces => Drafted::TooManyPieces,
+        Drafted::Groups { boxes, end } => {
+            let all = keep(groups, around.later, around.groups, draft, end, boxes);
+            Drafted::Groups {
+                boxes: all.boxes,
+                end: all.end,
+            }
+        }
+    }
+}
+
+// Where the groups of the new A come from. An allow is taken out or put in where fewer deny rules are than rules.
+fn places(
+    pair: &[u8],
+    gate: usize,
+    list: u32,
+    place: usize,
+    change: Change,
+    order: &[u8],
+    renewed: usize,
+) -> Around
+    requires { ⌜ (sectionSize gate ≤ length (now pair)) × (sectionSize renewed ≤ length (now order)) × (Inside (eqb list 0) place change gate renewed) ⌝ }
+    ensures { λ r. ⌜ r ≡ aroundOf (eqb list 0) place change (rulesOf gate (now (pair .entry))) (rulesOf renewed (now (order .entry))) ⌝ }
+{
+    let groups = sheet::count_denies(pair, gate);
+    if list != 0 {
+        return Around {
+            earlier: groups,
+            later: groups,
+            groups,
+            place: gate,
+            to: gate,
+        };
+    }
+    let taken = taken_by(change);
+    let put = put_by(change);
+    let earlier = sheet::count_denies(pair, place);
+    let later = sheet::count_denies(pair, place + taken);
+    let first = sheet::count_denies(order, place);
+    let new = sheet::count_denies(order, place + put);
+    let wide = Around {
+        earlier,
+        later: groups,
+        groups,
+        place,
+        to: renewed,
+    };
+    if later != earlier + taken {
+        return wide;
+    }
+    if new != first + put {
+        return wide;
+    }
+    Around {
+        earlier,
+        later,
+        groups,
+        place,
+        to: place + put,
+    }
+}
+
+// The groups drafted, and the pair sheet written if there is room for them.
+fn finish(
+    sheet: &mut [u8],
+    used: usize,
+    from: usize,
+    order: &[u8],
+    gate: usize,
+    own: usize,
+    around: Around,
+    draft: &mut [u8],
+    work: &mut [u8],
+) -> Answer
+    requires { ⌜ Finishing (now sheet) used from (now order) gate own around (now draft) (now work) ⌝ }
+    ensures { λ r. ⌜ Writes pairBytes (pairSize limits) (slotted (listsOf gate own (sectionSize gate) (now (order .entry))) (slotsAround around (partOf from used (now (sheet .entry))) (drop countSize (now (order .entry))))) (now (sheet .entry)) (now (work .entry)) r (now (sheet .exit)) (now (work .exit)) ⌝ }
+{
+    match draft_around(
+        &sheet[from..used],
+        &order[COUNT_BYTES..],
+        around,
+        draft,
+        work,
+    ) {
+        Drafted::TooManyPieces => Answer::Refused(Refusal::TooManyPieces),
+        Drafted::Groups { boxes, end } => {
+            if TOTAL_MOST < boxes + own {
+                return Answer::Refused(Refusal::TooManyBoxes);
+            }
+            let groups = sheet::count_denies(order, gate);
+            Answer::Length(draft::put_pair(sheet, order, groups, &draft[..end]))
+        }
+    }
+}
+
+// The pair sheet read, the new order sheet made and read, and the new pair sheet written if there is room for its groups.
+fn revise_with(
+    sheet: &mut [u8],
+    used: usize,
+    list: u32,
+    place: usize,
+    change: Change,
+    new: &[u8],
+    order: &mut [u8],
+    draft: &mut [u8],
+    work: &mut [u8],
+) -> Answer
+    requires { ⌜ (pairSize limits ≤ length (now sheet)) × (used ≤ length (now sheet)) × (orderSize limits + recordSize ≤ length (now order)) × (draftSize limits ≤ length (now draft)) × (workSize limits ≤ length (now work)) ⌝ }
+    ensures { λ r. ⌜ Revised (now (sheet .entry)) used (asked list place change (now (new .entry))) (now (work .entry)) r (now (sheet .exit)) (now (work .exit)) ⌝ }
+{
+    match sheet::read_pair(&sheet[..used]) {
+        PairParts::Fault(f) => Answer::Refused(f),
+        PairParts::Parts {
+            gate,
+            own,
+            middle,
+            third,
+            boxes: _,
+        } => match change_order(
+            &sheet[..used],
+            gate,
+            own,
+            middle,
+            third,
+            list,
+            place,
+            change,
+            new,
+            order,
+        ) {
+            Answer::Refused(f) => Answer::Refused(f),
+            Answer::Length(end) => match sheet::read_order(&order[..end]) {
+                OrderParts::Fault(f) => Answer::Refused(f),
+                OrderParts::Parts {
+                    gate: renewed,
+                    own: others,
+                    middle: _,
+                } => {
+                    let around = places(
+                        &sheet[..used],
+                        gate,
+                        list,
+                        place,
+                        change,
+                        &order[..end],
+                        renewed,
+                    );
+                    let from = third + COUNT_BYTES;
+                    finish(
+                        sheet,
+                        used,
+                        from,
+                        &order[..end],
+                        renewed,
+                        others,
+                        around,
+                        draft,
+                        work,
+                    )
+                }
+            },
+        },
+    }
+}
+
+fn revise(
+    sheet: &mut [u8],
+    used: usize,
+    list: u32,
+    place: usize,
+    change: Change,
+    new: &[u8],
+    work: &mut [u8],
+) -> Answer
+    requires { ⌜ (pairSize limits ≤ length (now sheet)) × (used ≤ length (now sheet)) × (workSize limits ≤ length (now work)) ⌝ }
+    ensures { λ r. ⌜ Revised (now (sheet .entry)) used (asked list place change (now (new .entry))) (now (work .entry)) r (now (sheet .exit)) (now (work .exit)) ⌝ }
+{
+    let mut order = [0u8; EDIT_BYTES];
+    let mut draft = [0u8; DRAFT_BYTES];
+    revise_with(
+        sheet,
+        used,
+        list,
+        place,
+        change,
+        new,
+        &mut order,
+        &mut draft,
+        work,
+    )
+}
+
+// Edit: a rule put in, taken out or replaced at a place of A (list 0) or B (list 1) of a pair sheet of a stated length; the
+// answer is its new length.
+pub fn edit(
+    sheet: &mut [u8],
+    used: usize,
+    list: u32,
+    place: usize,
+    change: Change,
+    new: &[u8],
+    work: &mut [u8],
+) -> Answer
+    ensures { λ r. ⌜ Edits (now (sheet .entry)) used (asked list place change (now (new .entry))) (now (work .entry)) r (now (sheet .exit)) (now (work .exit)) ⌝ }
+{
+    if sheet.len() < PAIR_BYTES {
+        return Answer::Refused(Refusal::BufferShort);
+    }
+    if sheet.len() < used {
+        return Answer::Refused(Refusal::BufferShort);
+    }
+    if work.len() < WORK_BYTES {
+        return Answer::Refused(Refusal::BufferShort);
+    }
+    let answer = revise(sheet, used, list, place, change, new, work);
+    wire::zero(work, 0, WORK_BYTES);
+    answer
+}
