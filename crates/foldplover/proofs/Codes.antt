@@ -1,5 +1,5 @@
 -- An answer and its number: what each case of the code says, and that the number tells the answer. Assumes nothing.
-use mathlib.Core.Path.{_≡_, refl, ap, sym, subst, _∙_}
+use mathlib.Core.Path.{_≡_, ap, sym, subst, _∙_}
 use Prim.Native.Nat.{ℕ, _+_, _<_}
 use native.Mathlib.Omega.{arith}
 use Rattle.policy.specs.Refusals.{Outcome, accepted, refused, numberOf, said}

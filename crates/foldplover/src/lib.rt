@@ -1,5 +1,6 @@
 // The calls for C. Each hands over to the call of the crate below, and turns its answer into one number.
 use filter::REFUSAL_BASE;
+use planner::Change;
 use policy::Answer;
 use policy::Packet;
 use policy::number_of;
@@ -11,6 +12,9 @@ ghost use Rattle.wire.specs.RecordCalls.{RecordRead, RecordWritten};
 ghost use Rattle.sheet.specs.Split.{Split};
 ghost use Rattle.sheet.specs.Join.{Join};
 ghost use Rattle.planner.specs.Calls.{Moves, Checks, Lists, cellBytes, cellSize, gateBytes, gateSize};
+ghost use Rattle.planner.specs.Edits.{Edits};
+ghost use Rattle.planner.specs.declared.Change.the-variants.{Insert, Delete, Replace};
+ghost use Rattle.editing.specs.Orders.{asked};
 ghost use Rattle.filter.specs.Lookup.{lookup, lookupNumber};
 ghost use Rattle.foldplover.specs.Coded.{coded, Plain, Coded};
 
@@ -29,6 +33,48 @@ pub extern "C" fn foldplover_move(order: &[u8], sheet: &mut [u8], work: &mut [u8
     ensures { λ r. ⌜ Coded (λ q. Moves (now (order .entry)) (now (sheet .entry)) (now (work .entry)) q (now (sheet .exit)) (now (work .exit))) r ⌝ }
 {
     answer_number(planner::move_order(order, sheet, work))
+}
+
+#[no_mangle]
+pub extern "C" fn foldplover_insert(
+    sheet: &mut [u8],
+    used: usize,
+    list: u32,
+    place: usize,
+    bytes: &[u8],
+    work: &mut [u8],
+) -> u32
+    ensures { λ r. ⌜ Coded (λ q. Edits (now (sheet .entry)) used (asked list place Insert (now (bytes .entry))) (now (work .entry)) q (now (sheet .exit)) (now (work .exit))) r ⌝ }
+{
+    answer_number(editing::edit(sheet, used, list, place, Change::Insert, bytes, work))
+}
+
+#[no_mangle]
+pub extern "C" fn foldplover_delete(
+    sheet: &mut [u8],
+    used: usize,
+    list: u32,
+    place: usize,
+    work: &mut [u8],
+) -> u32
+    ensures { λ r. ⌜ Coded (λ q. Edits (now (sheet .entry)) used (asked list place Delete []) (now (work .entry)) q (now (sheet .exit)) (now (work .exit))) r ⌝ }
+{
+    let none = [0u8; 0];
+    answer_number(editing::edit(sheet, used, list, place, Change::Delete, &none, work))
+}
+
+#[no_mangle]
+pub extern "C" fn foldplover_replace(
+    sheet: &mut [u8],
+    used: usize,
+    list: u32,
+    place: usize,
+    bytes: &[u8],
+    work: &mut [u8],
+) -> u32
+    ensures { λ r. ⌜ Coded (λ q. Edits (now (sheet .entry)) used (asked list place Replace (now (bytes .entry))) (now (work .entry)) q (now (sheet .exit)) (now (work .exit))) r ⌝ }
+{
+    answer_number(editing::edit(sheet, used, list, place, Change::Replace, bytes, work))
 }
 
 #[no_mangle]

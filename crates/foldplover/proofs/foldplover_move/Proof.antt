@@ -4,7 +4,6 @@ use native.Mathlib.Omega.{arith}
 use Rattle.policy.specs.Fields.{limits}
 use Rattle.policy.specs.Refusals.{said}
 use Rattle.sheet.specs.Pairs.{pairBytes, pairSize}
-use Rattle.planner.specs.Calls.{moveOf}
 use Rattle.foldplover.specs.Coded.{Plain}
 use Rattle.foldplover.proofs.Plain.{call-plain}
 use Rattle.foldplover.proofs.foldplover_move.Statement.{statement}
