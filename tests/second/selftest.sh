@@ -14,6 +14,8 @@ rustc -O --edition 2021 --cfg library --cfg table -L native=$out -o $out/second 
 $out/second selftest
 $out/second cases 300 4 | cmp - tests/second/cases.bin
 $out/second expected <tests/second/cases.bin | cmp - tests/second/cases.out
+cmp crates/cases/stdin tests/second/cases.bin
+cmp crates/cases/stdout tests/second/cases.out
 for example in dairy plant refused; do
     $out/second plan <examples/$example.order | cmp - examples/$example.out
 done
