@@ -9,3 +9,4 @@ pub mod Check
 pub mod Demands
 pub mod Values
 pub mod Boundary
+pub mod Example

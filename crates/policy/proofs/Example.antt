@@ -1,0 +1,17 @@
+-- The printed example, computed: the move is accepted and gives the printed cell list. Assumes nothing.
+use mathlib.Core.Path.{_≡_, refl}
+use Rattle.policy.specs.Fields.{highest, limits}
+use Rattle.policy.specs.Ranges.{fullOver, everyField}
+use Rattle.policy.specs.Cut.{pieces, cut, cutEach, group}
+use Rattle.policy.specs.Rules.{sound, complete}
+use Rattle.policy.specs.Refusals.{faults}
+use Rattle.policy.specs.Move.{slots, boxesOf, together, over, overSlot, anyOver, work, room, denials, moved, cellList, listRefusal, moveRefusal}
+use Rattle.policy.specs.Example.{example, exampleCell}
+
+pub example-cell : cellList (moved example) ≡ exampleCell
+unfolding slots boxesOf group cut pieces cutEach together denials highest fullOver
+example-cell = refl
+
+pub example-accepted : moveRefusal limits example ≡ 0
+unfolding moveRefusal listRefusal slots boxesOf group cut pieces cutEach together highest fullOver everyField room work anyOver overSlot over faults sound complete
+example-accepted = refl

@@ -1,0 +1,26 @@
+-- The printed example (01, The program): a gate of three rules, a cell that allows all, and the cell list that a move gives.
+-- Assumes nothing.
+use mathlib.Core.List.{List, [], _∷_}
+use Prim.Native.Nat.{ℕ}
+use Rattle.policy.specs.Ranges.{range, Region}
+use Rattle.policy.specs.Rules.{full, Rule, rule}
+use Rattle.policy.specs.Move.{Order}
+
+-- Any source and source port; destination, destination port and protocol from one value up to another.
+abbrev reaching : ℕ → ℕ → ℕ → ℕ → ℕ → ℕ → Region
+reaching d₁ d₂ p₁ p₂ q₁ q₂ = range 0 4294967295 ∷ range d₁ d₂ ∷ range 0 65535 ∷ range p₁ p₂ ∷ range q₁ q₂ ∷ []
+
+abbrev pub example : Order
+example = record {
+  gate = rule (reaching 10 19 80 80 6 6) 1 ∷ rule (reaching 0 29 0 65535 6 6) 0 ∷ rule full 1 ∷ [];
+  own = rule full 1 ∷ [];
+}
+
+abbrev pub exampleCell : List Rule
+exampleCell =
+    rule (reaching 0 9 0 65535 6 6) 0
+    ∷ rule (reaching 20 29 0 65535 6 6) 0
+    ∷ rule (reaching 10 19 0 79 6 6) 0
+    ∷ rule (reaching 10 19 81 65535 6 6) 0
+    ∷ rule full 1
+    ∷ []
