@@ -1,3 +1,7 @@
 pub mod Drafts
 pub mod Sheets
 pub mod Turns
+pub mod Laid
+pub mod Drawn
+pub mod Runs
+pub mod Arounds

@@ -1,5 +1,7 @@
 // Section C under construction: groups worked out anew, one behind another in a local draft; and the pair sheet that is put
 // together from an order's bytes and a draft.
+pub mod kept;
+
 use groups::Worked;
 use policy::BOX_BYTES;
 use policy::COUNT_BYTES;
@@ -9,17 +11,14 @@ use policy::TOTAL_MOST;
 use sheet::PAIR_BYTES;
 ghost use mathlib.Core.Path.{_≡_};
 ghost use mathlib.Core.List.{_++_};
-ghost use mathlib.Core.Bool.{true};
 ghost use Prim.Native.Nat.{_+_, _*_, _≤_, _<_};
-ghost use lib.ListN.{length, take, drop};
+ghost use lib.ListN.{length, drop};
 ghost use lib.Seq.{sets};
-ghost use Rattle.lists.specs.Lists.{every};
 ghost use Rattle.policy.specs.Fields.{boxSize, countSize, recordSize, limits};
-ghost use Rattle.policy.specs.Rules.{sound, isAllow};
+ghost use Rattle.policy.specs.Rules.{isAllow};
 ghost use Rattle.wire.specs.Numbers.{numberBytes};
-ghost use Rattle.wire.specs.Records.{ruleIn, rulesIn};
+ghost use Rattle.wire.specs.Records.{ruleIn};
 ghost use Rattle.wire.specs.Buffers.{filled};
-ghost use Rattle.groups.specs.Worked.{workSize};
 ghost use Rattle.sheet.specs.Pairs.{pairSize, groupSize};
 ghost use Rattle.draft.specs.Drafts.{Appended, Ready, DraftedGroups};
 ghost use Rattle.draft.specs.Sheets.{Laid, sheetOf};
@@ -30,6 +29,22 @@ pub const DRAFT_BYTES: usize = COUNT_BYTES * GATE_MOST + BOX_BYTES * TOTAL_MOST;
 pub enum Drafted {
     Groups { boxes: usize, end: usize },
     TooManyPieces,
+}
+
+// Where the groups of an edited A come from: those before `earlier` and those from `later` up to `groups` are kept, and those
+// of the new rules from `place` up to `to` are worked out anew between them.
+pub struct Around {
+    pub earlier: usize,
+    pub later: usize,
+    pub groups: usize,
+    pub place: usize,
+    pub to: usize,
+}
+
+// How many boxes a draft has, and where it ends.
+pub struct Draft {
+    pub boxes: usize,
+    pub end: usize,
 }
 
 fn is_allow(rules: &[u8], i: usize) -> bool

@@ -1,9 +1,6 @@
 pub mod Splices
 pub mod Changes
-pub mod Runs
-pub mod Arounds
 pub mod Touched
 pub mod Slots
-pub mod Finished
 pub mod Revised
 pub mod Calls

@@ -20,6 +20,7 @@ use Rattle.policy.specs.Edit.{Kind, out, put, front, gone, back, changed, Edit,
 use Rattle.policy.specs.declared.Answer.{Answer}
 use Rattle.policy.specs.declared.Answer.the-variants.{Length, Refused}
 use Rattle.policy.specs.declared.Refusal.{Refusal}
+use Rattle.policy.proofs.Answers.{unless-accepted}
 use Rattle.policy.proofs.Numbers.{orElse-assoc}
 use Rattle.policy.proofs.Edits.{list-accepted, changed-faults, chain-gate, chain-own}
 use Rattle.wire.specs.Numbers.{Byte}
@@ -35,18 +36,19 @@ use Rattle.sheet.proofs.Orders.{ListFits, faultless-fits, order-back}
 use Rattle.sheet.proofs.Accepted.{PairAccepted, OrderAccepted}
 use Rattle.draft.specs.Drafts.{draftSize}
 use Rattle.planner.specs.Calls.{lengthOf}
-use Rattle.planner.specs.Steps.{Writes}
+use Rattle.planner.specs.Steps.{Writes, slotted, partOf, Finishing}
 use Rattle.planner.specs.Edits.{Asked, kindOf, editOf, wholeRecord, changeOf, editedOf}
 use Rattle.planner.specs.declared.Change.{Change}
 use Rattle.planner.specs.declared.Change.the-variants.{Insert, Delete, Replace}
 use Rattle.planner.proofs.Demands.{changed-fits}
 use Rattle.editing.specs.Orders.{newOrderOf, overlaid, OrderChanged, ListsHeld}
-use Rattle.editing.specs.Drafts.{runSize, GroupsHeld, slotsAround, Placed, aroundOf, Inside, slotted, partOf, Finishing}
+use Rattle.editing.specs.Drafts.{aroundOf, Inside}
 use Rattle.editing.specs.Edits.{Revised}
-use Rattle.editing.specs.declared.Around.{Around}
+use Rattle.draft.specs.declared.Around.{Around}
 use Rattle.editing.proofs.Changes.{taken-is, put-is, changed-length}
-use Rattle.editing.proofs.Runs.{run-length}
+use Rattle.draft.proofs.Runs.{run-length}
 use Rattle.editing.proofs.Slots.{around-length, own-slots, own-placed, gate-slots, gate-placed}
+use Rattle.draft.specs.Arounds.{runSize, GroupsHeld, slotsAround, Placed}
 
 -- the tests of 9 and 3, whatever comes behind them
 both-refuse : {A B : Type 0} (b c : Bool) (x : Outcome A) (bytes : B → List ℕ) (y : B) (n : ℕ)
@@ -66,10 +68,6 @@ both-pass false c bytes y n e = let z : _≡_ {A = ℕ} 0 1 = cc in absurd (omeg
 unless-refused : {A B : Type 0} (k r n : ℕ) (y : A) (z : B) → unless k y ≡ refused n → unless (orElse k r) z ≡ refused n
 unless-refused zero r n y z e = let q : _≡_ {A = ℕ} 0 1 = cc in absurd (omega arith)
 unless-refused (suc k) r n y z e = cc
-
-unless-accepted : {A : Type 0} (k : ℕ) (y z : A) → unless k y ≡ accepted z → (k ≡ 0) × (y ≡ z)
-unless-accepted zero y z e = (refl, cc)
-unless-accepted (suc k) y z e = let q : _≡_ {A = ℕ} 0 1 = cc in absurd (omega arith)
 
 put-few : (c : Change) (s : List ℕ) → length (put (kindOf c s)) ≤ 1
 put-few Insert s = omega arith
@@ -213,7 +211,7 @@ module _ {s : List ℕ} {n m middle third boxes : ℕ} (a : PairAccepted s n m m
         t = take end order′
 
         clean : (lists ≡ 0) × (new ≡ listsOf n′ m′ middle′ t)
-        clean = unless-accepted lists new (listsOf n′ m′ middle′ t) (sym reads-new ∙ b .reads)
+        clean = unless-accepted lists (sym reads-new ∙ b .reads)
 
         rules-new : rulesOf n′ t ≡ new .gate
         rules-new = λ i. sym (clean .1) i .gate

@@ -23,10 +23,11 @@ use Rattle.draft.proofs.Drafts.{rules-front, stretch-none}
 use Rattle.planner.specs.Edits.{kindOf}
 use Rattle.planner.specs.declared.Change.{Change}
 use Rattle.editing.specs.Orders.{takenBy, putBy}
-use Rattle.editing.specs.Drafts.{keptSlots, slotsAround, Placed, touched, aroundOf}
-use Rattle.editing.specs.declared.Around.{Around}
-use Rattle.editing.proofs.Runs.{groups-front, groups-count}
+use Rattle.editing.specs.Drafts.{touched, aroundOf}
+use Rattle.draft.specs.declared.Around.{Around}
+use Rattle.draft.proofs.Runs.{groups-front, groups-count}
 use Rattle.editing.proofs.Changes.{taken-is, put-is}
+use Rattle.draft.specs.Arounds.{keptSlots, slotsAround, Placed}
 
 -- how many groups there are around a change
 pub around-length : (f : Region → List Region) (x m n y : List Rule) (gs : List (List Region)) → length gs ≡ denies (x ++ (m ++ y))

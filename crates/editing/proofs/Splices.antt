@@ -7,25 +7,16 @@ use lib.ListN.{length, take, drop, length-append, length-drop}
 use lib.Seq.{sets, take-at, drop-at, length-take-le}
 use Rattle.lists.specs.Lists.{Each}
 use Rattle.lists.proofs.Lists.{sets-append, three-parts, each-take, each-drop}
-use Rattle.lists.proofs.Parts.{copied-sets, tail-sets, tail-whole}
+use Rattle.lists.proofs.Parts.{tail-whole}
 use Rattle.policy.specs.Fields.{countSize, recordSize}
 use Rattle.policy.specs.Rules.{Rule}
 use Rattle.policy.specs.Edit.{Kind, out, put, front, gone, back, changed}
 use Rattle.wire.specs.Numbers.{numberBytes}
 use Rattle.wire.specs.Records.{recordsBytes}
 use Rattle.wire.proofs.Numbers.{numberBytes-length}
-use Rattle.wire.proofs.Records.{RuleFits, recordsBytes-length}
+use Rattle.wire.proofs.Records.{records-append, RuleFits, recordsBytes-length}
 use Rattle.sheet.specs.Sections.{sectionBytes}
-use Rattle.planner.proofs.Listing.{records-append}
 use Rattle.editing.specs.Orders.{spliced}
-
--- a copy to the part of a buffer that starts at a place
-pub bytes-put : (out y content : List ℕ) (at : ℕ) → at + length content ≤ length out
-    → y ≡ take (length content) content ++ drop (length content) (take (length out - at) (drop at out))
-    → take at out ++ (y ++ drop (length out - at) (drop at out)) ≡ sets out at content
-bytes-put out y content at h e =
-    let t : length (take (length out - at) (drop at out)) ≡ length out - at = length-take-le (length out - at) (drop at out) (rw length-drop (omega arith)) in
-    rw (e, copied-sets (take (length out - at) (drop at out)) content (omega arith)) (tail-sets out at content h)
 
 -- five parts one behind another
 module _ (out a b c d e o₁ o₂ o₃ o₄ o₅ : List ℕ) (p q r s : ℕ) where

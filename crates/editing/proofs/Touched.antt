@@ -17,7 +17,7 @@ use Rattle.draft.proofs.Drafts.{rules-front}
 use Rattle.planner.specs.declared.Change.{Change}
 use Rattle.editing.specs.Orders.{takenBy, putBy}
 use Rattle.editing.specs.Drafts.{Inside, touched, aroundOf}
-use Rattle.editing.specs.declared.Around.{Around}
+use Rattle.draft.specs.declared.Around.{Around}
 
 -- a list has an allow unless it has as many deny rules as rules
 all-deny : (l : List Rule) → denies l ≡ length l → anyAllow l ≡ false

@@ -1,15 +1,13 @@
 // Edit: a pair sheet changed at one place of A or of B. The new lists are written as an order sheet into a local buffer and
 // read there, and section C is drafted from kept groups and groups worked out anew, before anything lent is touched.
+use draft::Around;
 use draft::DRAFT_BYTES;
-use draft::Drafted;
 use groups::WORK_BYTES;
 use planner::Change;
 use policy::Answer;
-use policy::BOX_BYTES;
 use policy::COUNT_BYTES;
 use policy::RECORD_BYTES;
 use policy::Refusal;
-use policy::TOTAL_MOST;
 use sheet::ORDER_BYTES;
 use sheet::OrderParts;
 use sheet::PAIR_BYTES;
@@ -18,39 +16,22 @@ ghost use mathlib.Core.Path.{_≡_};
 ghost use mathlib.Core.Bool.{cond};
 ghost use Prim.Native.Nat.{_+_, _*_, _≤_, _<_};
 ghost use lib.Dec.{eqb};
-ghost use lib.ListN.{length, drop};
+ghost use lib.ListN.{length};
 ghost use lib.Seq.{sets};
 ghost use Rattle.policy.specs.Fields.{countSize, recordSize, limits};
 ghost use Rattle.sheet.specs.Orders.{orderSize};
 ghost use Rattle.sheet.specs.Sections.{sectionSize};
-ghost use Rattle.sheet.specs.Pairs.{pairBytes, pairSize};
+ghost use Rattle.sheet.specs.Pairs.{pairSize};
 ghost use Rattle.sheet.specs.Readers.{rulesOf, listsOf};
 ghost use Rattle.groups.specs.Worked.{workSize};
-ghost use Rattle.draft.specs.Drafts.{Drafting, draftSize};
+ghost use Rattle.draft.specs.Drafts.{draftSize};
 ghost use Rattle.planner.specs.Edits.{wholeRecord, Edits};
-ghost use Rattle.planner.specs.Steps.{Writes};
 ghost use Rattle.editing.specs.Orders.{asked, takenBy, putBy, spliced, OrderChanged, ListsHeld};
-ghost use Rattle.editing.specs.Drafts.{boxesBefore, runSize, Keeping, keptSlots, AroundReady, DraftedAround, Inside, aroundOf, Finishing, slotted, slotsAround, partOf};
+ghost use Rattle.editing.specs.Drafts.{Inside, aroundOf};
 ghost use Rattle.editing.specs.Edits.{Revised};
 
 // The largest order sheet, and a record more: a new count is tested once it is written.
 const EDIT_BYTES: usize = ORDER_BYTES + RECORD_BYTES;
-
-// Where the groups of an edited A come from: those before `earlier` and those from `later` up to `groups` are kept, and those
-// of the new rules from `place` up to `to` are worked out anew between them.
-struct Around {
-    earlier: usize,
-    later: usize,
-    groups: usize,
-    place: usize,
-    to: usize,
-}
-
-// How many boxes a draft has, and where it ends.
-struct Draft {
-    boxes: usize,
-    end: usize,
-}
 
 // How many rules a change takes out at its place, and how many it puts in.
 fn taken_by(change: Change) -> usize
@@ -91,15 +72,6 @@ fn pick(list: u32, a: usize, b: usize) -> usize
     if list == 0 { a } else { b }
 }
 
-// The content from a place on, and where it ends.
-fn put_bytes(out: &mut [u8], at: usize, content: &[u8]) -> usize
-    requires { ⌜ at + length (now content) ≤ length (now out) ⌝ }
-    ensures { λ r. ⌜ (r ≡ at + length (now (content .entry))) × (now (out .exit) ≡ sets (now (out .entry)) at (now (content .entry))) ⌝ }
-{
-    bytes::copy(content, &mut out[at..]);
-    at + content.len()
-}
-
 // The lists with the section at `start` changed, at the front of the buffer; their length.
 fn splice(
     out: &mut [u8],
@@ -116,28 +88,11 @@ fn splice(
     let first = start + COUNT_BYTES;
     let from = first + RECORD_BYTES * place;
     let next = from + RECORD_BYTES * taken;
-    put_bytes(out, 0, &lists[..start]);
+    wire::put_bytes(out, 0, &lists[..start]);
     wire::put_count(out, start, count);
-    put_bytes(out, first, &lists[first..from]);
-    let end = put_bytes(out, from, new);
-    put_bytes(out, end, &lists[next..])
-}
-
-// How many boxes the first n groups have.
-fn count_boxes(s: &[u8], n: usize) -> usize
-    requires { ⌜ runSize n (now s) ≤ length (now s) ⌝ }
-    ensures { λ r. ⌜ r ≡ boxesBefore n (now (s .entry)) ⌝ }
-{
-    let mut boxes: usize = 0;
-    let mut at: usize = 0;
-    let mut left = n;
-    while 0 < left {
-        let count = wire::count_at(s, at);
-        boxes += count;
-        at = at + COUNT_BYTES + BOX_BYTES * count;
-        left -= 1;
-    }
-    boxes
+    wire::put_bytes(out, first, &lists[first..from]);
+    let end = wire::put_bytes(out, from, new);
+    wire::put_bytes(out, end, &lists[next..])
 }
 
 // The new lists as an order sheet at the front of the buffer, and its length; or 9, or 3 for the record.
@@ -180,62 +135,6 @@ fn change_order(
         &new[..size],
     );
     Answer::Length(end)
-}
-
-// The groups from one place up to another, as they stand, behind what the draft holds, unless the boxes, these among them, are
-// more than fit.
-fn keep(groups: &[u8], from: usize, to: usize, draft: &mut [u8], at: usize, boxes: usize) -> Draft
-    requires { ⌜ Keeping (now groups) from to (now draft) at boxes ⌝ }
-    ensures { λ r. ⌜ Drafting limits (keptSlots from to (now (groups .entry))) (now (draft .entry)) at boxes (Drafted.Groups (r .boxes) (r .end)) (now (draft .exit)) ⌝ }
-{
-    let before = count_boxes(groups, from);
-    let all = count_boxes(groups, to);
-    let sum = boxes + (all - before);
-    if TOTAL_MOST < sum {
-        return Draft {
-            boxes: sum,
-            end: at,
-        };
-    }
-    let start = COUNT_BYTES * from + BOX_BYTES * before;
-    let end = COUNT_BYTES * to + BOX_BYTES * all;
-    let last = put_bytes(draft, at, &groups[start..end]);
-    Draft {
-        boxes: sum,
-        end: last,
-    }
-}
-
-// The groups of the new A: kept, worked out anew, kept.
-fn draft_around(
-    groups: &[u8],
-    rules: &[u8],
-    around: Around,
-    draft: &mut [u8],
-    work: &mut [u8],
-) -> Drafted
-    requires { ⌜ AroundReady (now groups) (now rules) around (now draft) (now work) ⌝ }
-    ensures { λ r. ⌜ DraftedAround (now (groups .entry)) (now (rules .entry)) around (now (draft .entry)) (now (work .entry)) r (now (draft .exit)) (now (work .exit)) ⌝ }
-{
-    let front = keep(groups, 0, around.earlier, draft, 0, 0);
-    match draft::draft_groups(
-        rules,
-        around.place,
-        around.to,
-        draft,
-        front.end,
-        front.boxes,
-        work,
-    ) {
-        Drafted::TooManyPieces => Drafted::TooManyPieces,
-        Drafted::Groups { boxes, end } => {
-            let all = keep(groups, around.later, around.groups, draft, end, boxes);
-            Drafted::Groups {
-                boxes: all.boxes,
-                end: all.end,
-            }
-        }
-    }
 }
 
 // Where the groups of the new A come from. An allow is taken out or put in where fewer deny rules are than rules.
@@ -286,39 +185,6 @@ fn places(
         groups,
         place,
         to: place + put,
-    }
-}
-
-// The groups drafted, and the pair sheet written if there is room for them.
-fn finish(
-    sheet: &mut [u8],
-    used: usize,
-    from: usize,
-    order: &[u8],
-    gate: usize,
-    own: usize,
-    around: Around,
-    draft: &mut [u8],
-    work: &mut [u8],
-) -> Answer
-    requires { ⌜ Finishing (now sheet) used from (now order) gate own around (now draft) (now work) ⌝ }
-    ensures { λ r. ⌜ Writes pairBytes (pairSize limits) (slotted (listsOf gate own (sectionSize gate) (now (order .entry))) (slotsAround around (partOf from used (now (sheet .entry))) (drop countSize (now (order .entry))))) (now (sheet .entry)) (now (work .entry)) r (now (sheet .exit)) (now (work .exit)) ⌝ }
-{
-    match draft_around(
-        &sheet[from..used],
-        &order[COUNT_BYTES..],
-        around,
-        draft,
-        work,
-    ) {
-        Drafted::TooManyPieces => Answer::Refused(Refusal::TooManyPieces),
-        Drafted::Groups { boxes, end } => {
-            if TOTAL_MOST < boxes + own {
-                return Answer::Refused(Refusal::TooManyBoxes);
-            }
-            let groups = sheet::count_denies(order, gate);
-            Answer::Length(draft::put_pair(sheet, order, groups, &draft[..end]))
-        }
     }
 }
 
@@ -375,7 +241,7 @@ fn revise_with(
                         renewed,
                     );
                     let from = third + COUNT_BYTES;
-                    finish(
+                    planner::finish(
                         sheet,
                         used,
                         from,

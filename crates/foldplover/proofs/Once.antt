@@ -12,7 +12,7 @@ use Rattle.sheet.proofs.Splits.{split-once}
 use Rattle.sheet.proofs.Joins.{join-once}
 use Rattle.planner.specs.Calls.{Call, Checks}
 use Rattle.planner.proofs.Calls.{call-once}
-use Rattle.planner.proofs.Checking.{check-once}
+use Rattle.listing.proofs.Checking.{check-once}
 use Rattle.foldplover.specs.Coded.{Coded}
 use Rattle.foldplover.proofs.Codes.{same-number}
 

@@ -81,21 +81,21 @@ pub extern "C" fn foldplover_replace(
 pub extern "C" fn foldplover_check(sheet: &[u8], work: &mut [u8]) -> u32
     ensures { λ r. ⌜ Coded (λ q. Checks (now (sheet .entry)) (now (work .entry)) q (now (work .exit))) r ⌝ }
 {
-    answer_number(planner::check(sheet, work))
+    answer_number(listing::check(sheet, work))
 }
 
 #[no_mangle]
 pub extern "C" fn foldplover_cell_list(sheet: &[u8], list: &mut [u8], work: &mut [u8]) -> u32
     ensures { λ r. ⌜ Coded (λ q. Lists cellBytes cellSize (now (sheet .entry)) (now (list .entry)) (now (work .entry)) q (now (list .exit)) (now (work .exit))) r ⌝ }
 {
-    answer_number(planner::cell_list(sheet, list, work))
+    answer_number(listing::cell_list(sheet, list, work))
 }
 
 #[no_mangle]
 pub extern "C" fn foldplover_gate_list(sheet: &[u8], list: &mut [u8], work: &mut [u8]) -> u32
     ensures { λ r. ⌜ Coded (λ q. Lists gateBytes gateSize (now (sheet .entry)) (now (list .entry)) (now (work .entry)) q (now (list .exit)) (now (work .exit))) r ⌝ }
 {
-    answer_number(planner::gate_list(sheet, list, work))
+    answer_number(listing::gate_list(sheet, list, work))
 }
 
 #[no_mangle]

@@ -13,7 +13,7 @@ use Rattle.policy.specs.Fields.{widths, boxSize}
 use Rattle.policy.specs.Ranges.{Region}
 use Rattle.wire.specs.Records.{boxBytes, boxesBytes, Fits}
 use Rattle.wire.proofs.Records.{boxBytes-length}
-use Rattle.wire.proofs.Steps.{sets-append}
+use Rattle.lists.proofs.Lists.{sets-append}
 use Rattle.groups.specs.Stores.{places, storeOne, store, Stored}
 
 -- A run of stores keeps what stands before it and behind it.

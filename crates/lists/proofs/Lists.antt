@@ -2,9 +2,9 @@
 use mathlib.Core.Path.{_≡_, refl, ap, _∙_}
 use mathlib.Core.List.{List, [], _∷_, _++_, map}
 use mathlib.Core.Bool.{Bool, true}
-use Prim.Native.Nat.{ℕ, zero, suc, _+_}
+use Prim.Native.Nat.{ℕ, zero, suc, _+_, _<_}
 use native.Mathlib.Omega.{arith}
-use lib.ListN.{length, set, take, drop, take-append-drop}
+use lib.ListN.{length, getD, set, take, drop, take-append-drop}
 use lib.Seq.{sets}
 use Rattle.lists.specs.Lists.{Each, every}
 use Rattle.lists.proofs.Tests.{and-true, and-both}
@@ -62,3 +62,21 @@ module _ {A : Type 0} where
   every-take f (suc n) (a ∷ l) h =
       let g = and-true (f a) (every f l) h in
       and-both (f a) (every f (take n l)) (g .0) (every-take f n l (g .1))
+
+  pub each-every : (f : A → Bool) (P : A → Type 0) → ((a : A) → f a ≡ true → P a) → (l : List A) → every f l ≡ true → Each P l
+  unfolding Each every
+  each-every f P g [] h = tt
+  each-every f P g (a ∷ l) h =
+      let k = and-true (f a) (every f l) h in
+      (g a (k .0), each-every f P g l (k .1))
+
+  pub every-each : (f : A → Bool) (l : List A) → Each (λ (a : A). f a ≡ true) l → every f l ≡ true
+  unfolding Each every
+  every-each f [] h = refl
+  every-each f (a ∷ l) h = and-both (f a) (every f l) (h .0) (every-each f l (h .1))
+
+  pub every-at : (f : A → Bool) (l : List A) (d : A) → every f l ≡ true → (k : ℕ) → k < length l → f (getD l k d) ≡ true
+  unfolding every
+  every-at f [] d e k h = absurd (omega arith)
+  every-at f (a ∷ l) d e zero h = and-true (f a) (every f l) e .0
+  every-at f (a ∷ l) d e (suc k) h = every-at f l d (and-true (f a) (every f l) e .1) k (omega arith)

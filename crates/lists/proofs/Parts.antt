@@ -4,7 +4,7 @@ use mathlib.Core.List.{List, _++_, append-assoc}
 use Prim.Native.Nat.{ℕ, _+_, _-_, _≤_}
 use native.Mathlib.Omega.{arith}
 use lib.ListN.{length, take, drop, length-drop, drop-of-length-le}
-use lib.Seq.{sets, sets-eq, take-all, drop-drop}
+use lib.Seq.{sets, sets-eq, take-all, drop-drop, length-take-le}
 use Rattle.lists.proofs.Lists.{append-none}
 
 module _ {A : Type 0} where
@@ -33,3 +33,11 @@ module _ {A : Type 0} where
       tail-back c m (omega arith) (sets (take (length c - m) (drop m c)) 0 v)
       ∙ rw (tail-whole c m (omega arith), sets-eq v (drop m c) 0 (rw length-drop (omega arith)), sets-eq v c m h, z, drop-drop (length v) m c)
       (sym (append-assoc (take m c) v (drop (m + length v) c)))
+
+  -- a copy to the part is stores at its place
+  pub copy-put : (c y v : List A) (m : ℕ) → m + length v ≤ length c
+      → y ≡ take (length v) v ++ drop (length v) (take (length c - m) (drop m c))
+      → take m c ++ (y ++ drop (length c - m) (drop m c)) ≡ sets c m v
+  copy-put c y v m h e =
+      let t : length (take (length c - m) (drop m c)) ≡ length c - m = length-take-le (length c - m) (drop m c) (rw length-drop (omega arith)) in
+      rw (e, copied-sets (take (length c - m) (drop m c)) v (omega arith)) (tail-sets c m v h)

@@ -6,18 +6,18 @@ use Prim.Native.Nat.{ℕ, zero, suc, _+_, _-_, _<_, _≤_}
 use native.Mathlib.Omega.{arith}
 use lib.Dec.{leb, eqb}
 use lib.ListN.{length, take, drop, length-append, length-take, length-drop}
-use lib.Seq.{take-at, drop-at, length-take-le}
+use lib.Seq.{take-at}
 use borrow.Author.Tests.{le-leb, eqb-true, eq-eqb}
 use Rattle.lists.proofs.Tests.{and-true}
 use Rattle.lists.specs.Lists.{Each}
 use Rattle.lists.proofs.Lists.{each-append, each-take, each-drop}
 use Rattle.policy.specs.Fields.{recordSize, Limits, limits}
 use Rattle.policy.specs.Rules.{Rule}
-use Rattle.policy.specs.Refusals.{Outcome, accepted, refused, test, andThen, unless, given, orElse}
+use Rattle.policy.specs.Refusals.{Outcome, accepted, refused, andThen, unless, orElse}
 use Rattle.policy.specs.Move.{slotsOf, room, Order, Pair, moved, gateList, cellList, listRefusal, moveRefusal}
 use Rattle.policy.specs.Check.{checkRefusal}
 use Rattle.policy.specs.Edit.{Kind, out, put, changed, hasPlace, Edit, newOrder, placeFound, edited, changeRefusal, allDone}
-use Rattle.policy.proofs.Numbers.{orElse-zero, orElse-both, orElse-assoc}
+use Rattle.policy.proofs.Numbers.{orElse-both, orElse-assoc}
 use Rattle.policy.proofs.Edits.{Accepted, move-accepted, edit-as-fresh, change-refuses-as-fresh}
 use Rattle.policy.specs.Demands.{DenyOnly}
 use Rattle.policy.proofs.Kept.{others-kept}
@@ -27,10 +27,9 @@ use Rattle.wire.specs.Numbers.{Byte}
 use Rattle.wire.specs.Buffers.{filled}
 use Rattle.wire.proofs.Buffers.{filled-over}
 use Rattle.wire.proofs.Records.{RuleFits, ruleIn-fits}
-use Rattle.sheet.specs.Sections.{sectionBytes}
-use Rattle.sheet.specs.Orders.{orderIn, orderBytes, listIn}
+use Rattle.sheet.specs.Orders.{orderIn, orderBytes}
 use Rattle.sheet.specs.Pairs.{pairIn, pairBytes, pairSize}
-use Rattle.sheet.proofs.Outcomes.{test-accepted, through, faultless}
+use Rattle.sheet.proofs.Outcomes.{through, faultless}
 use Rattle.sheet.proofs.Orders.{ListFits, faultless-fits, order-back, order-faultless, order-written-back, list-back}
 use Rattle.sheet.proofs.Pairs.{pair-back, pair-good}
 use Rattle.planner.specs.Calls.{planOf, moveOf, checkedOf, checkOf, written}
@@ -39,6 +38,7 @@ use Rattle.planner.specs.Demands.{DemandTwo, Held, held, after, edits, r
 use Rattle.planner.specs.declared.Change.{Change}
 use Rattle.planner.specs.declared.Change.the-variants.{Insert, Delete, Replace}
 use Rattle.planner.proofs.Good.{moved-good, pair-short, gate-list-good, cell-list-good}
+use Rattle.policy.proofs.Answers.{test-accepted}
 
 unless-is : {A : Type 0} (n : ℕ) (a v : A) → unless n a ≡ accepted v → (n ≡ 0) × (a ≡ v)
 unless-is zero a v e = (refl, cc)
@@ -162,8 +162,8 @@ module _ (lim : Limits) (small : Small lim) where
       → (moveRefusal lim (newOrder (editOf a) o) ≡ 0) × (p ≡ moved (newOrder (editOf a) o))
   unfolding changeOf
   change-accepted a o p h e =
-      let f = test-accepted (leb (a .list) 1 && placeFound (editOf a) o) 9 _ p e in
-      let g = test-accepted (wholeRecord (a .change) (a .bytes)) 3 _ p (f .1) in
+      let f = test-accepted (leb (a .list) 1 && placeFound (editOf a) o) 9 _ e in
+      let g = test-accepted (wholeRecord (a .change) (a .bytes)) 3 _ (f .1) in
       let u = unless-is (changeRefusal lim (editOf a) (moved o)) (edited (editOf a) (moved o)) p (g .1) in
       (sym (change-refuses-as-fresh lim (editOf a) o h) ∙ u .0, sym (u .1) ∙ edit-as-fresh (editOf a) o)
 
@@ -222,8 +222,8 @@ module _ (lim : Limits) (small : Small lim) where
   edit-keeps-others s a p q r e g d =
       let k : Kind = kindOf (a .change) (a .bytes) in
       let i : eqb (a .list) 0 ≡ true = eq-eqb (a .list) 0 g in
-      let f = test-accepted (leb (a .list) 1 && placeFound (editOf a) (p .order)) 9 _ q (rw r at e) in
-      let w = test-accepted (wholeRecord (a .change) (a .bytes)) 3 _ q (f .1) in
+      let f = test-accepted (leb (a .list) 1 && placeFound (editOf a) (p .order)) 9 _ (rw r at e) in
+      let w = test-accepted (wholeRecord (a .change) (a .bytes)) 3 _ (f .1) in
       let u = unless-is (changeRefusal lim (editOf a) p) (edited (editOf a) p) q (w .1) in
       let h = and-true (leb (a .list) 1) (placeFound (editOf a) (p .order)) (f .0) in
       record {

@@ -2,15 +2,14 @@
 -- Assumes nothing.
 use mathlib.Core.Path.{_≡_, refl, ap, _∙_}
 use mathlib.Core.List.{List, [], _∷_, _++_}
-use mathlib.Core.Bool.{Bool, true, false, false≢true}
+use mathlib.Core.Bool.{true, false, false≢true}
 use Prim.Native.Nat.{ℕ, suc, _+_, _*_, _-_, _<_, _≤_}
 use native.Mathlib.Omega.{arith}
 use lib.ListN.{length, length-append, length-map}
 use borrow.Author.Tests.{ltb-false, le-ltb}
-use Rattle.lists.specs.Lists.{Each, every}
-use Rattle.lists.proofs.Tests.{and-both}
-use Rattle.lists.proofs.Lists.{each-append, each-imp}
-use Rattle.policy.specs.Fields.{highest, widths, boxSize, countSize, Limits}
+use Rattle.lists.specs.Lists.{Each}
+use Rattle.lists.proofs.Lists.{each-append, each-imp, every-each}
+use Rattle.policy.specs.Fields.{highest, boxSize, countSize, Limits}
 use Rattle.policy.specs.Ranges.{Region, proper, everyField, fullOver}
 use Rattle.policy.specs.Rules.{Rule, sound, complete}
 use Rattle.policy.specs.Refusals.{faults}
@@ -18,21 +17,15 @@ use Rattle.policy.specs.Move.{slotsOf, startOf, boxesOf, together, work, room, 
 use Rattle.policy.proofs.Numbers.{orElse-zero, orElse-both, given-zero}
 use Rattle.policy.proofs.Proper.{Proper, moved-proper}
 use Rattle.policy.proofs.Edits.{move-accepted, list-accepted, slots-length, faults-append}
-use Rattle.wire.specs.Records.{Fits}
-use Rattle.wire.proofs.Records.{proper-fits, boxesBytes-length}
 use Rattle.wire.proofs.Numbers.{numberBytes-length}
 use Rattle.sheet.specs.Sections.{sectionSize}
 use Rattle.sheet.specs.Orders.{orderBytes}
-use Rattle.sheet.specs.Pairs.{groupBytes, groupsBytes, pairBytes, pairSize}
+use Rattle.sheet.specs.Pairs.{pairBytes, pairSize}
 use Rattle.sheet.proofs.Sections.{sectionBytes-length}
-use Rattle.sheet.proofs.Outcomes.{each-every, faultless}
+use Rattle.sheet.proofs.Outcomes.{faultless}
 use Rattle.sheet.proofs.Orders.{faultless-fits}
+use Rattle.draft.proofs.Laid.{groups-length}
 use Rattle.sheet.proofs.Pairs.{ProperGroup, PairGood, denies-most}
-
-pub every-each : {A : Type 0} (f : A → Bool) (l : List A) → Each (λ (a : A). f a ≡ true) l → every f l ≡ true
-unfolding Each every
-every-each f [] h = refl
-every-each f (a ∷ l) h = and-both (f a) (every f l) (h .0) (every-each f l (h .1))
 
 pub moved-good : (lim : Limits) (o : Order) → moveRefusal lim o ≡ 0 → PairGood lim (moved o)
 unfolding room
@@ -51,15 +44,7 @@ moved-good lim o h =
       };
     }
 
--- how long the bytes of groups and of a pair are
-pub groups-length : (gs : List (List Region)) → Each ProperGroup gs → length (groupsBytes gs) ≡ countSize * length gs + boxSize * length (together gs)
-unfolding groupsBytes groupBytes together Each
-groups-length [] h = refl
-groups-length (g ∷ gs) h =
-    let i = groups-length gs (h .1) in
-    let b = boxesBytes-length g (each-every (proper highest) (Fits widths) proper-fits g (h .0)) in
-    rw (length-append, length-append, length-append, numberBytes-length) (omega arith)
-
+-- how long the bytes of a pair are
 module _ (lim : Limits) (p : Pair) (u : lim .gate < 65536) (v : lim .own < 65536) (good : PairGood lim p) where
   pub pair-length : length (pairBytes p) ≡ sectionSize (length (p .order .gate)) + sectionSize (length (p .order .own)) + (countSize + (countSize * length (p .groups) + boxSize * length (together (p .groups))))
   unfolding pairBytes orderBytes

@@ -1,8 +1,6 @@
 pub mod Good
 pub mod Demands
 pub mod Calls
-pub mod Drafting
+pub mod Finished
 pub mod Planning
-pub mod Checking
-pub mod Listing
 pub mod Lengths

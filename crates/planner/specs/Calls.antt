@@ -2,12 +2,11 @@
 -- given back). Assumes nothing.
 use mathlib.Core.Path.{_≡_}
 use mathlib.Core.List.{List}
-use mathlib.Core.Bool.{Bool, true, false, cond, _&&_}
+use mathlib.Core.Bool.{Bool, cond, _&&_}
 use Prim.Native.Nat.{ℕ}
 use lib.Dec.{leb}
 use lib.ListN.{length}
 use Rattle.policy.specs.Fields.{Limits, limits}
-use Rattle.policy.specs.Rules.{Rule}
 use Rattle.policy.specs.Refusals.{Outcome, accepted, refused, test, andThen, unless, said}
 use Rattle.policy.specs.Move.{slotsOf, room, Order, Pair, moved, gateList, cellList}
 use Rattle.policy.specs.Check.{checkRefusal}

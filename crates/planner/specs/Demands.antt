@@ -2,12 +2,12 @@
 -- in proofs/Demands.antt. Assumes nothing.
 use mathlib.Core.Path.{_≡_}
 use mathlib.Core.List.{List, [], _∷_}
-use mathlib.Core.Bool.{Bool, true}
+use mathlib.Core.Bool.{true}
 use Prim.Native.Nat.{ℕ}
 use lib.ListN.{length, take}
 use Rattle.policy.specs.Fields.{Limits}
 use Rattle.policy.specs.Ranges.{Packet}
-use Rattle.policy.specs.Rules.{Rule, drops, forwards}
+use Rattle.policy.specs.Rules.{drops, forwards}
 use Rattle.policy.specs.Cut.{anyHas}
 use Rattle.policy.specs.Refusals.{Outcome, accepted, refused}
 use Rattle.policy.specs.Move.{together, Order, Pair, moved, gateList, cellList}
@@ -16,7 +16,7 @@ use Rattle.policy.specs.Demands.{inGateAt, OthersKept}
 use Rattle.sheet.specs.Sections.{sectionBytes}
 use Rattle.sheet.specs.Orders.{orderIn, orderBytes, listIn}
 use Rattle.sheet.specs.Pairs.{pairIn, pairBytes, pairSize}
-use Rattle.planner.specs.Calls.{moveOf, checkOf, written, lengthOf}
+use Rattle.planner.specs.Calls.{moveOf, checkOf, written}
 use Rattle.planner.specs.Edits.{Asked, kindOf, editOf, editedOf}
 
 -- Demand 2 of an order sheet's bytes that a move accepts with the pair p. Its lists o are those that the bytes say, and say

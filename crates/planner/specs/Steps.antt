@@ -1,19 +1,22 @@
 -- What a call's inner part answers and leaves, once everything lent is long enough. Assumes nothing.
 use mathlib.Core.Path.{_≡_}
-use mathlib.Core.List.{List}
-use Prim.Native.Nat.{ℕ}
-use lib.ListN.{length, drop}
-use Rattle.policy.specs.Fields.{limits}
-use Rattle.policy.specs.Refusals.{Outcome, said}
-use Rattle.policy.specs.Move.{together, denials}
+use mathlib.Core.List.{List, map}
+use Prim.Native.Nat.{ℕ, _-_, _≤_}
+use lib.ListN.{length, take, drop}
+use Rattle.policy.specs.Fields.{countSize, limits}
+use Rattle.policy.specs.Rules.{denies}
+use Rattle.policy.specs.Refusals.{Outcome, unless, said}
+use Rattle.policy.specs.Move.{Slot, boxesOf, room, Order, Pair}
 use Rattle.policy.specs.declared.Answer.{Answer}
-use Rattle.wire.specs.Records.{recordsBytes, boxesIn}
-use Rattle.wire.specs.Buffers.{filled}
 use Rattle.groups.specs.Worked.{workSize}
+use Rattle.sheet.specs.Sections.{sectionSize}
 use Rattle.sheet.specs.Pairs.{pairBytes, pairSize}
-use Rattle.sheet.specs.Readers.{groupsFrom, pairHeard, PairPlaced}
-use Rattle.sheet.specs.declared.PairParts.{PairParts}
-use Rattle.planner.specs.Calls.{moveOf, checkOf, written, lengthOf}
+use Rattle.sheet.specs.Readers.{rulesOf, OrderRead}
+use Rattle.sheet.specs.declared.OrderParts.the-variants.{Parts}
+use Rattle.draft.specs.Drafts.{draftSize}
+use Rattle.draft.specs.Arounds.{GroupsHeld, slotsAround, Placed}
+use Rattle.draft.specs.declared.Around.{Around}
+use Rattle.planner.specs.Calls.{moveOf, written, lengthOf}
 
 -- A result written to a buffer, or a refusal; nothing changed behind the work buffer's front.
 pub record Writes {A : Type 0} (bytes : A → List ℕ) (size : ℕ) (x : Outcome A) (out w : List ℕ) (r : Answer) (out′ w′ : List ℕ) : Type 0 where
@@ -25,23 +28,22 @@ pub record Writes {A : Type 0} (bytes : A → List ℕ) (size : ℕ) (x : Outcom
 abbrev pub Planned : List ℕ → List ℕ → List ℕ → Answer → List ℕ → List ℕ → Type 0
 Planned s out w r out′ w′ = Writes pairBytes (pairSize limits) (moveOf limits s) out w r out′ w′
 
--- Check: the parts of a pair sheet whose section C is what A gives, and where they lie; or the refusal.
-pub record CheckRead (s : List ℕ) (r : PairParts) : Type 0 where
-  pub says : pairHeard s r ≡ checkOf limits s
-  pub place : PairPlaced s r
+-- The pair of new lists and slots: 6 and 7, or accepted.
+unfoldable pub slotted : Order → List Slot → Outcome Pair
+slotted o l = unless (room limits o l) (record { order = o; groups = map boxesOf l })
 
--- The deny records of n boxes, which begin the bytes.
-abbrev pub boxRecords : ℕ → List ℕ → List ℕ
-boxRecords n s = recordsBytes (denials (boxesIn n s))
+-- The bytes from one place up to another.
+abbrev pub partOf : ℕ → ℕ → List ℕ → List ℕ
+partOf from to s = take (to - from) (drop from s)
 
--- Of n groups, which begin the bytes: how many boxes they have together, and their deny records.
-abbrev pub boxCount : ℕ → List ℕ → ℕ
-boxCount n s = length (together (groupsFrom n s))
-
-abbrev pub groupRecords : ℕ → List ℕ → List ℕ
-groupRecords n s = recordsBytes (denials (together (groupsFrom n s)))
-
--- A list written: its length is answered, and zeros stand behind it.
-pub record ListPut (content : List ℕ) (size : ℕ) (out : List ℕ) (r : ℕ) (out′ : List ℕ) : Type 0 where
-  pub answer : r ≡ length content
-  pub result : out′ ≡ filled size out content
+-- What the last step asks for: the new order sheet reads well, and the old groups stand in the sheet from `from` up to `used`.
+pub record Finishing (sheet : List ℕ) (used from : ℕ) (order : List ℕ) (gate own : ℕ) (v : Around) (draft work : List ℕ) : Type 0 where
+  pub reads : OrderRead order (Parts gate own (sectionSize gate))
+  pub held : GroupsHeld (partOf from used sheet) (v .groups)
+  pub placed : Placed v gate
+  pub counted : length (slotsAround v (partOf from used sheet) (drop countSize order)) ≡ denies (rulesOf gate order)
+  pub start : from ≤ used
+  pub end : used ≤ length sheet
+  pub sheetRoom : pairSize limits ≤ length sheet
+  pub room : draftSize limits ≤ length draft
+  pub workRoom : workSize limits ≤ length work

@@ -1,10 +1,10 @@
 -- An answer is known from its number or value, and a call that is accepted has passed its tests. Assumes nothing.
 use mathlib.Core.Path.{_≡_, refl, ap, sym, _∙_}
 use mathlib.Core.Bool.{Bool, true, false, cond}
-use Prim.Native.Nat.{ℕ}
+use Prim.Native.Nat.{ℕ, zero, suc}
 use native.Mathlib.Omega.{arith}
 use lib.Dec.{eqb}
-use Rattle.policy.specs.Refusals.{numberOf, Outcome, accepted, test, said}
+use Rattle.policy.specs.Refusals.{numberOf, Outcome, accepted, test, unless, said}
 use Rattle.policy.specs.declared.Refusal.{Refusal}
 use Rattle.policy.specs.declared.Refusal.the-variants.{
   BufferShort,
@@ -50,3 +50,7 @@ said-once (Refused f) (Refused g) e = ap Refused (number-once f g (cc))
 pub test-accepted : {A : Type 0} (t : Bool) (n : ℕ) (x : Outcome A) {a : A} → test t n x ≡ accepted a → (t ≡ true) × (x ≡ accepted a)
 test-accepted true n x e = (refl, e)
 test-accepted false n x e = let z : _≡_ {A = ℕ} 0 1 = cc in absurd (omega arith)
+
+pub unless-accepted : {A : Type 0} (n : ℕ) {x a : A} → unless n x ≡ accepted a → (n ≡ 0) × (x ≡ a)
+unless-accepted zero e = (refl, cc)
+unless-accepted (suc n) e = let z : _≡_ {A = ℕ} 0 1 = cc in absurd (omega arith)

@@ -2,8 +2,8 @@
 // refusal's number.
 use groups::WORK_BYTES;
 use libc::STDOUT_FILENO;
-use planner::CELL_LIST_BYTES;
-use planner::GATE_LIST_BYTES;
+use listing::CELL_LIST_BYTES;
+use listing::GATE_LIST_BYTES;
 use policy::Answer;
 use policy::COUNT_BYTES;
 use policy::FIELDS;
@@ -92,9 +92,9 @@ fn print_both(gate: &[u8], cell: &[u8])
 fn print_lists(sheet: &[u8], work: &mut [u8]) {
     let mut gate = [0u8; GATE_LIST_BYTES];
     let mut cell = [0u8; CELL_LIST_BYTES];
-    match planner::gate_list(sheet, &mut gate, work) {
+    match listing::gate_list(sheet, &mut gate, work) {
         Answer::Refused(f) => print_refusal(f),
-        Answer::Length(_) => match planner::cell_list(sheet, &mut cell, work) {
+        Answer::Length(_) => match listing::cell_list(sheet, &mut cell, work) {
             Answer::Refused(f) => print_refusal(f),
             Answer::Length(_) => print_both(&gate, &cell),
         },

@@ -18,8 +18,10 @@ use Rattle.wire.proofs.Records.{RuleFits, sound-fits}
 use Rattle.sheet.specs.Sections.{Reading, reading, section, sectionSize, sectionBytes}
 use Rattle.sheet.specs.Orders.{ended, order, orderIn, orderBytes, listIn}
 use Rattle.sheet.specs.Readers.{listsIn}
-use Rattle.sheet.proofs.Outcomes.{test-accepted, through, each-every, faultless}
+use Rattle.sheet.proofs.Outcomes.{through, faultless}
 use Rattle.sheet.proofs.Sections.{section-good, section-written-back, section-back}
+use Rattle.lists.proofs.Lists.{each-every}
+use Rattle.policy.proofs.Answers.{test-accepted}
 
 -- A list whose numbers fit their bytes.
 pub record ListFits (l : List Rule) : Type 0 where
@@ -37,7 +39,7 @@ nothing-left (x ∷ l) e = absurd (omega arith)
 
 pub ended-accepted : {A B : Type 0} (r : Reading A) (v w : B) → ended r v ≡ accepted w → (v ≡ w) × (r .rest ≡ [])
 ended-accepted r v w e =
-    let a = test-accepted (eqb (length (r .rest)) 0) 3 _ w e in
+    let a = test-accepted (eqb (length (r .rest)) 0) 3 _ e in
     (cc (a .1), nothing-left (r .rest) (eqb-true (length (r .rest)) 0 (a .0)))
 
 -- Going on from A and B.

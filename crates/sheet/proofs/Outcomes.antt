@@ -2,33 +2,18 @@
 use mathlib.Core.Path.{_≡_, refl, ap, sym, _∙_}
 use mathlib.Core.List.{List, [], _∷_}
 use mathlib.Core.Bool.{Bool, true, false, not, _&&_, _||_}
-use Prim.Native.Nat.{ℕ, zero, suc, _≤_}
+use Prim.Native.Nat.{ℕ, _≤_}
 use native.Mathlib.Omega.{arith}
 use lib.Dec.{leb, ltb}
 use lib.ListN.{length}
 use borrow.Author.Tests.{leb-true, leb-false, lt-ltb, le-ltb}
-use Rattle.lists.specs.Lists.{Each, every}
-use Rattle.lists.proofs.Tests.{and-true}
+use Rattle.lists.specs.Lists.{every}
+use Rattle.policy.proofs.Answers.{test-accepted}
 use Rattle.policy.specs.Rules.{Rule, sound, complete}
 use Rattle.policy.specs.Refusals.{Outcome, accepted, refused, test, andThen, given, orElse, unless, faults}
 use Rattle.policy.specs.Move.{listRefusal}
 
 module _ {A : Type 0} where
-  pub test-accepted : (b : Bool) (n : ℕ) (x : Outcome A) (v : A) → test b n x ≡ accepted v → (b ≡ true) × (x ≡ accepted v)
-  test-accepted true n x v e = (refl, e)
-  test-accepted false n x v e = let z : _≡_ {A = ℕ} 0 1 = cc in absurd (omega arith)
-
-  pub unless-accepted : (n : ℕ) (a v : A) → unless n a ≡ accepted v → n ≡ 0
-  unless-accepted zero a v e = refl
-  unless-accepted (suc n) a v e = let z : _≡_ {A = ℕ} 0 1 = cc in absurd (omega arith)
-
-  pub each-every : (f : A → Bool) (P : A → Type 0) → ((a : A) → f a ≡ true → P a) → (l : List A) → every f l ≡ true → Each P l
-  unfolding Each every
-  each-every f P g [] h = tt
-  each-every f P g (a ∷ l) h =
-      let k = and-true (f a) (every f l) h in
-      (g a (k .0), each-every f P g l (k .1))
-
   -- tests in their order, and their numbers in theirs
   in-order :
       (a b c d : Bool) (x : A) → test a 2 (test b 2 (test c 4 (test d 5 (accepted x))))
@@ -85,10 +70,10 @@ pub record Faultless (most : ℕ) (l : List Rule) : Type 0 where
 pub faultless : (most : ℕ) (l : List Rule) → listRefusal most l ≡ 0 → Faultless most l
 faultless most l h =
     let e = list-outcome most l most ∙ ap (λ (n : ℕ). unless n most) h in
-    let a = test-accepted (leb 1 (length l)) 2 _ most e in
-    let b = test-accepted (leb (length l) most) 2 _ most (a .1) in
-    let c = test-accepted (every sound l) 4 _ most (b .1) in
-    let d = test-accepted (complete l) 5 _ most (c .1) in
+    let a = test-accepted (leb 1 (length l)) 2 _ e in
+    let b = test-accepted (leb (length l) most) 2 _ (a .1) in
+    let c = test-accepted (every sound l) 4 _ (b .1) in
+    let d = test-accepted (complete l) 5 _ (c .1) in
     record {
       few = leb-true 1 (length l) (a .0);
       many = leb-true (length l) most (b .0);

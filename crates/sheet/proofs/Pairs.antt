@@ -23,8 +23,10 @@ use Rattle.sheet.specs.Orders.{order, orderBytes}
 use Rattle.sheet.specs.Pairs.{groupSize, groupBoxes, behind, groupsIn, groupSection, pairIn, groupBytes, groupsBytes, pairBytes}
 use Rattle.sheet.specs.Readers.{listsIn}
 use Rattle.sheet.proofs.Counts.{count-back, count-behind, count-written-back, counted, counted-written-back}
-use Rattle.sheet.proofs.Outcomes.{test-accepted, through, each-every, faultless}
+use Rattle.sheet.proofs.Outcomes.{through, faultless}
 use Rattle.sheet.proofs.Orders.{faultless-fits, ended-accepted, behind-lists, lists-faultless, lists-written-back, lists-back}
+use Rattle.lists.proofs.Lists.{each-every}
+use Rattle.policy.proofs.Answers.{test-accepted}
 
 -- A group of proper boxes.
 abbrev pub ProperGroup : List Region → Type 0
@@ -44,10 +46,10 @@ group-good :
     → groupsIn lim (suc n) total s ≡ accepted r → GroupGood lim n total s r
 unfolding groupsIn
 group-good lim n total s r e =
-    let a = test-accepted (leb countSize (length s)) 3 _ r e in
-    let b = test-accepted (leb (total + countIn s) (lim .total)) 7 _ r (a .1) in
-    let c = test-accepted (leb (groupSize (countIn s)) (length s)) 3 _ r (b .1) in
-    let d = test-accepted (every (proper highest) (groupBoxes s)) 4 _ r (c .1) in
+    let a = test-accepted (leb countSize (length s)) 3 _ e in
+    let b = test-accepted (leb (total + countIn s) (lim .total)) 7 _ (a .1) in
+    let c = test-accepted (leb (groupSize (countIn s)) (length s)) 3 _ (b .1) in
+    let d = test-accepted (every (proper highest) (groupBoxes s)) 4 _ (c .1) in
     let f = through (groupsIn lim n (total + countIn s) (drop (groupSize (countIn s)) s)) _ r (d .1) in
     record {
       within = leb-true (total + countIn s) (lim .total) (b .0);
@@ -146,8 +148,8 @@ section-c-good :
     (lim : Limits) (a b : List Rule) (s : List ℕ) (p : Pair) → groupSection lim a b s ≡ accepted p → SectionCGood lim a b s p
 unfolding groupSection
 section-c-good lim a b s p e =
-    let c = test-accepted (leb countSize (length s)) 3 _ p e in
-    let d = test-accepted (eqb (countIn s) (denies a)) 8 _ p (c .1) in
+    let c = test-accepted (leb countSize (length s)) 3 _ e in
+    let d = test-accepted (eqb (countIn s) (denies a)) 8 _ (c .1) in
     let f = through (groupsIn lim (denies a) (length b) (drop countSize s)) _ p (d .1) in
     let g = ended-accepted (f .value) _ p (f .then) in
     record {

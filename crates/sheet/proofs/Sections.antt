@@ -17,7 +17,8 @@ use Rattle.wire.proofs.Numbers.{numberBytes-length}
 use Rattle.wire.proofs.Records.{RuleFits, rulesIn-length, recordsBytes-length, rules-back, records-written-back}
 use Rattle.sheet.specs.Sections.{Reading, reading, countIn, sectionSize, sectionRules, section, sectionBytes}
 use Rattle.sheet.proofs.Counts.{counted, counted-written-back}
-use Rattle.sheet.proofs.Outcomes.{test-accepted, unless-accepted, list-outcome}
+use Rattle.sheet.proofs.Outcomes.{list-outcome}
+use Rattle.policy.proofs.Answers.{test-accepted, unless-accepted}
 
 -- What an accepted section is.
 pub record SectionGood (most : ℕ) (s : List ℕ) (r : Reading (List Rule)) : Type 0 where
@@ -30,12 +31,12 @@ pub record SectionGood (most : ℕ) (s : List ℕ) (r : Reading (List Rule)) : T
 pub section-good : (most : ℕ) (s : List ℕ) (r : Reading (List Rule)) → section most s ≡ accepted r → SectionGood most s r
 unfolding section
 section-good most s r e =
-    let a = test-accepted (leb countSize (length s)) 3 _ r e in
-    let b = test-accepted (leb 1 (countIn s)) 2 _ r (a .1) in
-    let c = test-accepted (leb (countIn s) most) 2 _ r (b .1) in
-    let d = test-accepted (leb (sectionSize (countIn s)) (length s)) 3 _ r (c .1) in
-    let f = test-accepted (every sound (sectionRules s)) 4 _ r (d .1) in
-    let g = test-accepted (complete (sectionRules s)) 5 _ r (f .1) in
+    let a = test-accepted (leb countSize (length s)) 3 _ e in
+    let b = test-accepted (leb 1 (countIn s)) 2 _ (a .1) in
+    let c = test-accepted (leb (countIn s) most) 2 _ (b .1) in
+    let d = test-accepted (leb (sectionSize (countIn s)) (length s)) 3 _ (c .1) in
+    let f = test-accepted (every sound (sectionRules s)) 4 _ (d .1) in
+    let g = test-accepted (complete (sectionRules s)) 5 _ (f .1) in
     let p : reading (sectionRules s) (drop (sectionSize (countIn s)) s) ≡ r = cc (g .1) in
     let v : sectionRules s ≡ r .value = λ i. p i .value in
     let l : countIn s ≡ length (r .value) = sym (rulesIn-length (countIn s) (drop countSize s)) ∙ ap length v in
@@ -43,7 +44,7 @@ section-good most s r e =
     record {
       list =
           ap (listRefusal most) (sym v)
-          ∙ unless-accepted (listRefusal most (sectionRules s)) r r (sym (list-outcome most (sectionRules s) r) ∙ rw (m, b .0, c .0, f .0, g .0) refl);
+          ∙ unless-accepted (listRefusal most (sectionRules s)) {a = r} (sym (list-outcome most (sectionRules s) r) ∙ rw (m, b .0, c .0, f .0, g .0) refl) .0;
       count = l;
       there = omega (arith, leb-true (sectionSize (countIn s)) (length s) (d .0));
       rules = sym v ∙ ap (λ (n : ℕ). rulesIn n (drop countSize s)) l;

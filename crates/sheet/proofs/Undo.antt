@@ -13,14 +13,14 @@ use Rattle.policy.specs.Refusals.{Outcome, accepted, refused, said}
 use Rattle.policy.specs.Move.{Order}
 use Rattle.policy.specs.declared.Answer.{Answer}
 use Rattle.policy.specs.declared.Answer.the-variants.{Length}
-use Rattle.policy.proofs.Answers.{said-once}
+use Rattle.policy.proofs.Answers.{said-once, test-accepted}
 use Rattle.wire.specs.Numbers.{Byte}
 use Rattle.wire.specs.Buffers.{filled}
 use Rattle.sheet.specs.Sections.{sectionBytes}
 use Rattle.sheet.specs.Orders.{order, orderIn, orderBytes, listIn, gateSize, ownSize, orderSize}
 use Rattle.sheet.specs.Split.{Split, splitOf, splitSaid, splitGate, splitOwn}
 use Rattle.sheet.specs.Join.{Join, joinOf, joinSaid, joinSheet}
-use Rattle.sheet.proofs.Outcomes.{test-accepted, through}
+use Rattle.sheet.proofs.Outcomes.{through}
 use Rattle.sheet.proofs.Orders.{order-again, order-faultless, order-written-back, list-again, list-faultless, list-written-back}
 
 content-front : (end : ℕ) (out content : List ℕ) (n : ℕ) → n ≡ length content → take n (filled end out content) ≡ content
@@ -42,8 +42,8 @@ split-accepted {s} {a} {b} {n} {a′} {b′} x = go (splitOf limits s a b) refl 
     go : (y : Outcome Order) → splitOf limits s a b ≡ y → said (Length n) ≡ splitSaid y → a′ ≡ splitGate limits a y → b′ ≡ splitOwn limits b y
         → SplitAccepted s a b n a′ b′
     go (accepted o) e u v w =
-        let c = test-accepted (leb (gateSize limits) (length a)) 1 _ o e in
-        let d = test-accepted (leb (ownSize limits) (length b)) 1 _ o (c .1) in
+        let c = test-accepted (leb (gateSize limits) (length a)) 1 _ e in
+        let d = test-accepted (leb (ownSize limits) (length b)) 1 _ (c .1) in
         record { lists = o; reads = d .1; answer = cc u; gate = v; own = w }
     go (refused m) e u v w = let z : _≡_ {A = ℕ} 0 1 = cc u in absurd (omega arith)
 
@@ -61,7 +61,7 @@ join-accepted {a} {b} {out} {n} {out′} x = go (joinOf limits a b out) refl (x 
   where
     go : (y : Outcome Order) → joinOf limits a b out ≡ y → said (Length n) ≡ joinSaid y → out′ ≡ joinSheet limits out y → JoinAccepted a b out n out′
     go (accepted o) e u v =
-        let c = test-accepted (leb (orderSize limits) (length out)) 1 _ o e in
+        let c = test-accepted (leb (orderSize limits) (length out)) 1 _ e in
         let d = through (listIn (limits .gate) a) _ o (c .1) in
         let f = through (listIn (limits .own) b) _ o (d .then) in
         let p : order (d .value) (f .value) ≡ o = cc (f .then) in

@@ -27,7 +27,7 @@ use Rattle.wire.specs.Records.{recordBytes, ruleIn}
 use Rattle.wire.specs.RecordCalls.{numbersSize, lowOf, highOf, ruleNumbers, numbersRule, readingOf, writingOf, answered, frontWith, RecordRead, RecordWritten}
 use Rattle.wire.proofs.Buffers.{filled-front}
 use Rattle.wire.proofs.Records.{fits-length, sound-fits, recordBytes-length, rule-back, record-written-back}
-use Rattle.wire.proofs.Steps.{sets-append}
+use Rattle.lists.proofs.Lists.{sets-append}
 
 -- The numbers of ranges.
 lows-of : (ls hs : List ℕ) → length ls ≡ length hs → map lowOf (ranges ls hs) ≡ ls

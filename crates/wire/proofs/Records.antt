@@ -249,3 +249,9 @@ rules-from = items-from ruleItems
 pub rule-in-place : (i n : ℕ) (s : List ℕ) (d : Rule) → i < n → getD (rulesIn n s) i d ≡ ruleIn (drop (recordSize * i) s)
 unfolding ruleItems
 rule-in-place = item-at ruleItems
+
+-- the records of two lists, one behind the other
+pub records-append : (x y : List Rule) → recordsBytes (x ++ y) ≡ recordsBytes x ++ recordsBytes y
+unfolding recordsBytes
+records-append [] y = refl
+records-append (r ∷ x) y = rw (records-append x y) (sym (append-assoc (recordBytes r) (recordsBytes x) (recordsBytes y)))

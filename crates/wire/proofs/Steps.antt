@@ -1,14 +1,14 @@
 -- What one turn of reading and of writing a box does, and a record from its box. Assumes nothing.
 use mathlib.Core.Path.{_≡_, refl, ap, sym, _∙_}
 use mathlib.Core.List.{List, [], _∷_, _++_, append-assoc, append-nil}
-use mathlib.Core.Bool.{Bool, true}
-use Prim.Native.Nat.{ℕ, zero, suc, _+_, _<_, _≤_, min}
+use mathlib.Core.Bool.{true}
+use Prim.Native.Nat.{ℕ, suc, _+_, _<_, _≤_, min}
 use native.Mathlib.Omega.{arith}
 use native.Mathlib.Numerals.{add-one}
 use lib.ListN.{length, getD, set, drop, take, length-take, length-drop, drop-of-length-le}
 use lib.Seq.{sets, take-suc, getD-drop, take-all, drop-cons, drop-drop, take-suc-set}
 use Rattle.lists.specs.Lists.{every}
-use Rattle.lists.proofs.Tests.{and-true}
+use Rattle.lists.proofs.Lists.{sets-append, every-at}
 use Rattle.policy.specs.Fields.{fields, widths, sizeOf, boxSize, actionSize}
 use Rattle.policy.specs.Ranges.{range, Region}
 use Rattle.policy.specs.Rules.{Rule, rule}
@@ -19,21 +19,9 @@ use Rattle.wire.specs.Records.{rangesBytes, rangesIn, boxBytes, boxIn, r
 use Rattle.wire.proofs.Numbers.{numberBytes-length}
 use Rattle.wire.proofs.Records.{rangesBytes-length}
 
--- A run of stores in two parts.
-pub sets-append : (l : List ℕ) (i : ℕ) (u v : List ℕ) → sets l i (u ++ v) ≡ sets (sets l i u) (i + length u) v
-sets-append l i [] v = ap (λ (n : ℕ). sets l n v) (omega arith)
-sets-append l i (a ∷ u) v = sets-append (set l i a) (suc i) u v ∙ ap (λ (n : ℕ). sets (sets (set l i a) (suc i) u) n v) (omega arith)
-
--- Every entry of a table passes a test that is computed over the whole table.
-every-at : (f : ℕ → Bool) (l : List ℕ) → every f l ≡ true → (k : ℕ) → k < length l → f (getD l k 0) ≡ true
-unfolding every
-every-at f [] e k h = absurd (omega arith)
-every-at f (x ∷ l) e zero h = and-true (f x) (every f l) e .0
-every-at f (x ∷ l) e (suc k) h = every-at f l (and-true (f x) (every f l) e .1) k (omega arith)
-
 pub width-at : (k : ℕ) → k < fields → isWidth (getD widths k 0) ≡ true
 unfolding every isWidth
-width-at k h = every-at isWidth widths refl k h
+width-at k h = every-at isWidth widths 0 refl k h
 
 pub size-step : (ws : List ℕ) (k : ℕ) → k < length ws → sizeOf (drop k ws) ≡ getD ws k 0 + getD ws k 0 + sizeOf (drop (k + 1) ws)
 size-step ws k h = rw (add-one, drop-cons ws k 0 h)

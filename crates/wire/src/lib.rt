@@ -196,3 +196,12 @@ pub fn fill(out: &mut [u8], end: usize, content: &[u8])
     let n = bytes::copy(content, out);
     zero(out, n, end);
 }
+
+// The content from a place on, and where it ends.
+pub fn put_bytes(out: &mut [u8], at: usize, content: &[u8]) -> usize
+    requires { ⌜ at + length (now content) ≤ length (now out) ⌝ }
+    ensures { λ r. ⌜ (r ≡ at + length (now (content .entry))) × (now (out .exit) ≡ sets (now (out .entry)) at (now (content .entry))) ⌝ }
+{
+    bytes::copy(content, &mut out[at..]);
+    at + content.len()
+}

@@ -8,7 +8,7 @@ use Rattle.policy.specs.Fields.{limits}
 use Rattle.wire.proofs.Numbers.{bytes-all, bytes-take}
 use Rattle.sheet.specs.Pairs.{pairBytes, pairSize}
 use Rattle.sheet.proofs.Accepted.{pair-refused, pair-accepted, order-refused, order-accepted}
-use Rattle.planner.proofs.Planning.{refuses}
+use Rattle.planner.proofs.Finished.{refuses}
 use Rattle.editing.specs.Orders.{asked}
 use Rattle.editing.proofs.Revised.{pair-faulty, gate-inside, order-inside, lists-held, third-inside, revised-refused, revised-end, revised-faulty, revised-inside, revised-finishing, revised-done}
 use Rattle.editing.proofs.revise_with.Statement.{statement}

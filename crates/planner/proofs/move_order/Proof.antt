@@ -21,8 +21,8 @@ returns-2 c =
 plan-requires : tie.Need-plan-requires
 plan-requires c κs = search needs
 
-clear-requires : tie.Need-clear-requires
-clear-requires c κs = search needs
+zero-requires : tie.Need-zero-requires
+zero-requires c κs = search needs
 
 same-length : tie.Need-same-length
 same-length c = search needs
@@ -34,9 +34,9 @@ returns-3 : tie.Need-returns-3
 returns-3 c =
     let a = c .before .before .before .before .before .before .before .before .before .before .before .before .before .before .before .before .args in
     call-done pairBytes (pairSize limits) _ (moveOf limits (a .order .now)) (a .sheet .now) (a .work .now) (both-there (pairSize limits) (workSize limits) (a .sheet .now) (a .work .now) (c .before .before .before .before .before .before .before .before .before .before .before .before .if1 .left) (c .before .before .before .before .before .before .before .before .before .before .before .if2 .left))
-    (c .before .before .before .before .before .before .before .before .plan .ensures) (c .before .before .clear .ensures)
+    (c .before .before .before .before .before .before .before .before .plan .ensures) (c .before .before .zero .ensures)
 
 pub move-order-spec : {M : Type 1} → statement M
 move-order-spec =
     tie.close
-    (tie.spec returns returns-2 plan-requires clear-requires same-length same-length-2 returns-3)
+    (tie.spec returns returns-2 plan-requires zero-requires same-length same-length-2 returns-3)

@@ -1,0 +1,46 @@
+-- What a draft of all slots of A says: 6; or how many boxes there are and, while they are within the total, that its bytes are
+-- the groups' bytes. Assumes nothing.
+use mathlib.Core.Path.{_≡_, sym}
+use mathlib.Core.List.{List}
+use mathlib.Core.Bool.{true, false}
+use Prim.Native.Nat.{ℕ, _+_, _≤_}
+use native.Mathlib.Omega.{arith}
+use lib.ListN.{length, take, drop, length-map}
+use lib.Seq.{sets, sets-eq, take-at}
+use Rattle.lists.specs.Lists.{Each}
+use Rattle.policy.specs.Fields.{limits}
+use Rattle.policy.specs.Move.{Slot, boxesOf, together, anyOver}
+use Rattle.sheet.specs.Pairs.{groupsBytes}
+use Rattle.sheet.proofs.Pairs.{ProperGroup}
+use Rattle.draft.specs.Drafts.{groupsIn, Drawn, Drafting, draftSize}
+use Rattle.draft.specs.declared.Drafted.the-variants.{Groups, TooManyPieces}
+use Rattle.draft.proofs.Laid.{groups-length}
+
+module _ {l : List Slot} {draft draft′ : List ℕ} where
+  pub drawn-over : Drafting limits l draft 0 0 TooManyPieces draft′ → anyOver (limits .pieces) l ≡ true
+  unfolding Drawn
+  drawn-over x = x .drawn
+
+  module _ {boxes end : ℕ} (x : Drafting limits l draft 0 0 (Groups boxes end) draft′) where
+    pub drawn-light : anyOver (limits .pieces) l ≡ false
+    unfolding Drawn
+    drawn-light = x .drawn .0
+
+    pub drawn-boxes : boxes ≡ length (together (groupsIn l))
+    unfolding Drawn
+    drawn-boxes = let e = x .drawn .1 in omega arith
+
+    module _ (few : boxes ≤ limits .total) (proper : Each ProperGroup (groupsIn l)) (short : length l ≤ limits .gate) (room : draftSize limits ≤ length draft) where
+      bytes-drawn : (end ≡ 0 + length (groupsBytes (groupsIn l))) × (draft′ ≡ sets draft 0 (groupsBytes (groupsIn l)))
+      unfolding Drawn
+      bytes-drawn = x .drawn .2 few
+
+      pub drawn-end : end ≤ length draft
+      drawn-end = omega (arith, bytes-drawn .0, groups-length (groupsIn l) proper, length-map l boxesOf, drawn-boxes)
+
+      pub drawn-content : take end draft′ ≡ groupsBytes (groupsIn l)
+      drawn-content =
+          let e = bytes-drawn in
+          let g : List ℕ = groupsBytes (groupsIn l) in
+          let z : 0 + length g ≡ length g = omega arith in
+          rw (e .1, sets-eq g draft 0 (omega (arith, drawn-end)), e .0) (take-at g (drop (0 + length g) draft) (0 + length g) (sym z))

@@ -1,0 +1,96 @@
+-- What drafting the groups of all of A gives, whichever call does it: 6; or how many boxes there are and, while they are
+-- within the total together with the own rules, the bytes of the moved pair's groups. Assumes nothing.
+use mathlib.Core.Path.{_≡_}
+use mathlib.Core.List.{List, []}
+use mathlib.Core.Bool.{true, false}
+use Prim.Native.Nat.{ℕ, _+_, _-_, _≤_}
+use native.Mathlib.Omega.{arith}
+use lib.ListN.{length, take, drop, length-drop}
+use borrow.Author.Tests.{le-ltb}
+use Rattle.policy.specs.Fields.{countSize, limits}
+use Rattle.policy.specs.Rules.{allowsIn}
+use Rattle.policy.specs.Refusals.{accepted}
+use Rattle.policy.specs.Move.{slotsOf, startOf, together, anyOver, work, room, Order, moved, listRefusal, moveRefusal}
+use Rattle.policy.specs.declared.Refusal.the-variants.{TooManyPieces}
+use Rattle.policy.proofs.Numbers.{orElse-both}
+use Rattle.wire.specs.Records.{rulesIn}
+use Rattle.wire.proofs.Records.{rulesIn-length}
+use Rattle.groups.specs.Worked.{workSize}
+use Rattle.sheet.specs.Pairs.{groupsBytes}
+use Rattle.sheet.specs.Readers.{rulesOf, listsOf, ListsPlace}
+use Rattle.sheet.proofs.Outcomes.{faultless}
+use Rattle.sheet.proofs.Pairs.{ProperGroup, denies-most}
+use Rattle.lists.specs.Lists.{Each}
+use Rattle.policy.proofs.Edits.{slots-length}
+use Rattle.draft.specs.Drafts.{stretch, Drafting, Ready, DraftedGroups, draftSize}
+use Rattle.draft.specs.declared.Drafted.the-variants as D
+use Rattle.draft.proofs.Drawn.{drawn-over, drawn-light, drawn-boxes, drawn-end, drawn-content}
+use Rattle.planner.proofs.Good.{moved-good}
+
+-- A and B of a sheet, as reading has found them.
+pub record ListsSound (s : List ℕ) (n m middle third : ℕ) : Type 0 where
+  pub place : ListsPlace s n m middle third
+  pub gate : listRefusal (limits .gate) (rulesOf n s) ≡ 0
+  pub own : listRefusal (limits .own) (rulesOf m (drop middle s)) ≡ 0
+
+module _ {s : List ℕ} {n m middle third : ℕ} (a : ListsSound s n m middle third) where
+  abbrev o : Order
+  o = listsOf n m middle s
+
+  -- the whole of A, drafted, is the slots of a move
+  whole : (rules : List ℕ) → rules ≡ drop countSize s → stretch 0 n rules ≡ slotsOf o
+  unfolding rulesIn allowsIn
+  whole rules e = rw e
+
+  pub draft-ready : (rules draft w : List ℕ) → rules ≡ drop countSize s → draftSize limits ≤ length draft → workSize limits ≤ length w → Ready rules 0 n draft 0 0 w
+  draft-ready rules draft w e d k =
+      let p = a .place in
+      let f = faultless (limits .gate) (rulesOf n s) (a .gate) in
+      record {
+        records = rw (e, length-drop) (omega (arith, p .gateEnd, p .ownEnd, p .inside));
+        rulesSound = rw e (f .sounds);
+        upTo = omega arith;
+        gate = p .gateLimit;
+        room = d;
+        start = record { place = omega arith; few = omega arith };
+        workRoom = k;
+      }
+
+  module _ (rules : List ℕ) (is : rules ≡ drop countSize s) {draft w draft′ w′ : List ℕ} where
+    pub draft-over : DraftedGroups rules 0 n draft 0 0 w D.TooManyPieces draft′ w′ → anyOver (limits .pieces) (slotsOf o) ≡ true
+    draft-over x = drawn-over (rw (whole rules is) at (x .drafting))
+
+    module _ {b end : ℕ} (x : DraftedGroups rules 0 n draft 0 0 w (D.Groups b end) draft′ w′) where
+      drafting : Drafting limits (slotsOf o) draft 0 0 (D.Groups b end) draft′
+      drafting = rw (whole rules is) at (x .drafting)
+
+      pub draft-light : anyOver (limits .pieces) (slotsOf o) ≡ false
+      draft-light = drawn-light drafting
+
+      pub draft-boxes : b ≡ length (together (moved o .groups))
+      draft-boxes = drawn-boxes drafting
+
+      module _ (h : b + m ≤ limits .total) where
+        -- a move of the two lists is accepted
+        pub draft-moves : moveRefusal limits o ≡ 0
+        unfolding moveRefusal room work
+        draft-moves =
+            let t : length (together (moved o .groups)) + length (o .own) ≤ limits .total = omega (arith, draft-boxes, rulesIn-length m (drop countSize (drop middle s))) in
+            orElse-both _ _ (a .gate) (orElse-both _ _ (a .own) (rw (draft-light, le-ltb _ _ t)))
+
+        module _ (roomy : draftSize limits ≤ length draft) where
+          proper : Each ProperGroup (moved o .groups)
+          proper = moved-good limits o draft-moves .groups .boxes
+
+          few : b ≤ limits .total
+          few = omega arith
+
+          short : length (slotsOf o) ≤ limits .gate
+          short = omega (arith, slots-length (startOf o) [] (o .gate), denies-most (o .gate), rulesIn-length n (drop countSize s), a .place .gateLimit)
+
+          pub draft-end : end ≤ length draft
+          draft-end = drawn-end drafting few proper short roomy
+
+          -- the draft is section C of the moved pair
+          pub draft-content : take end draft′ ≡ groupsBytes (moved o .groups)
+          draft-content = drawn-content drafting few proper short roomy

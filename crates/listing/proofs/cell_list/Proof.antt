@@ -1,0 +1,71 @@
+-- `cell_list` meets its contract. Assumes nothing.
+use borrow.Author.Needs.{needs}
+use Rattle.policy.specs.Fields.{limits}
+use Rattle.groups.specs.Worked.{workSize}
+use Rattle.planner.specs.Calls.{checkOf, cellBytes, cellSize}
+use Rattle.planner.proofs.Calls.{room-short, work-short, both-there, call-short}
+use Rattle.listing.proofs.Checking.{check-place}
+use Rattle.listing.proofs.Listing.{list-refused, list-written}
+use Rattle.listing.proofs.cell_list.Statement.{statement}
+use Rattle.listing.proofs.cell_list.Tie as tie
+
+returns : tie.Need-returns
+returns c =
+    let a = c .before .before .before .before .args in
+    call-short cellBytes cellSize _ (checkOf limits (a .sheet .now)) (a .list .now) (a .work .now) (room-short cellSize (a .list .now) _ (c .if1 .taken))
+
+returns-2 : tie.Need-returns-2
+returns-2 c =
+    let a = c .before .before .before .before .before .args in
+    call-short cellBytes cellSize _ (checkOf limits (a .sheet .now)) (a .list .now) (a .work .now) (work-short cellSize (workSize limits) (a .list .now) (a .work .now) (c .before .if1 .left) (c .if2 .taken))
+
+checked-requires : tie.Need-checked-requires
+checked-requires c κs = search needs
+
+enum-known-f : tie.Need-enum-known-f
+enum-known-f c = search needs
+
+enum-known-gate : tie.Need-enum-known-gate
+enum-known-gate c = search needs
+
+put-cell-list-requires : tie.Need-put-cell-list-requires
+put-cell-list-requires c κs =
+    let x = rw (c .before .before .gate .given .1) at (c .before .before .before .before .before .before .checked .ensures .0) in
+    (check-place x, c .before .before .before .before .before .before .before .before .before .if1 .left)
+
+same-length : tie.Need-same-length
+same-length c = search needs
+
+returns-3 : tie.Need-returns-3
+returns-3 c =
+    let a = c .before .before .before .before .before .before .before .before .before .before .before .before .args in
+    list-refused cellBytes cellSize _ (a .sheet .now) (a .list .now) (a .work .now) (both-there cellSize (workSize limits) (a .list .now) (a .work .now) (c .before .before .before .before .before .before .before .before .if1 .left) (c .before .before .before .before .before .before .before .if2 .left))
+    (c .before .before .before .before .before .checked .ensures .1) (rw (c .before .f .given .1) at (c .before .before .before .before .before .checked .ensures .0))
+
+same-length-2 : tie.Need-same-length-2
+same-length-2 c = search needs
+
+same-length-3 : tie.Need-same-length-3
+same-length-3 c = search needs
+
+returns-4 : tie.Need-returns-4
+returns-4 c =
+    let a = c .before .before .before .before .before .before .before .before .before .before .before .before .before .before .before .before .args in
+    list-written cellBytes cellSize _ (a .sheet .now) (a .list .now) (a .work .now) (both-there cellSize (workSize limits) (a .list .now) (a .work .now) (c .before .before .before .before .before .before .before .before .before .before .before .before .if1 .left) (c .before .before .before .before .before .before .before .before .before .before .before .if2 .left))
+    (c .before .before .before .before .before .before .before .before .before .checked .ensures .1) (rw (c .before .before .before .before .before .gate .given .1) at (c .before .before .before .before .before .before .before .before .before .checked .ensures .0)) (c .before .before .put-cell-list .ensures)
+
+pub cell-list-spec : {M : Type 1} → statement M
+cell-list-spec =
+    tie.close
+    (tie.spec
+    returns
+    returns-2
+    checked-requires
+    enum-known-f
+    enum-known-gate
+    put-cell-list-requires
+    same-length
+    returns-3
+    same-length-2
+    same-length-3
+    returns-4)
