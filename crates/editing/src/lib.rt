@@ -13,12 +13,13 @@ use sheet::OrderParts;
 use sheet::PAIR_BYTES;
 use sheet::PairParts;
 ghost use mathlib.Core.Path.{_≡_};
-ghost use mathlib.Core.Bool.{cond};
+ghost use mathlib.Core.Bool.{true, cond};
 ghost use Prim.Native.Nat.{_+_, _*_, _≤_, _<_};
 ghost use lib.Dec.{eqb};
-ghost use lib.ListN.{length};
+ghost use lib.ListN.{length, drop};
 ghost use lib.Seq.{sets};
 ghost use Rattle.policy.specs.Fields.{countSize, recordSize, limits};
+ghost use Rattle.policy.specs.Rules.{anyAllow};
 ghost use Rattle.sheet.specs.Orders.{orderSize};
 ghost use Rattle.sheet.specs.Sections.{sectionSize};
 ghost use Rattle.sheet.specs.Pairs.{pairSize};
@@ -137,7 +138,59 @@ fn change_order(
     Answer::Length(end)
 }
 
-// Where the groups of the new A come from. An allow is taken out or put in where fewer deny rules are than rules.
+// Whether an allow is among n rules of a list from a place on, where n is 0 or 1.
+fn any_allow(list: &[u8], place: usize, n: usize) -> bool
+    requires { ⌜ (n ≤ 1) × (sectionSize (place + n) ≤ length (now list)) ⌝ }
+    ensures { λ r. ⌜ r ≡ anyAllow (drop place (rulesOf (place + n) (now (list .entry)))) ⌝ }
+{
+    if n == 0 {
+        return false;
+    }
+    let rule = wire::rule_at(list, COUNT_BYTES + RECORD_BYTES * place);
+    rule.action == 1
+}
+
+// Where the groups of the new A come from, if A is edited: those behind the place too are worked out anew where an allow is
+// taken out or put in.
+fn gate_places(
+    pair: &[u8],
+    gate: usize,
+    place: usize,
+    change: Change,
+    order: &[u8],
+    renewed: usize,
+) -> Around
+    requires { ⌜ (sectionSize gate ≤ length (now pair)) × (sectionSize renewed ≤ length (now order)) × (place + takenBy change ≤ gate) × (place + putBy change ≤ renewed) ⌝ }
+    ensures { λ r. ⌜ r ≡ aroundOf true place change (rulesOf gate (now (pair .entry))) (rulesOf renewed (now (order .entry))) ⌝ }
+{
+    let taken = taken_by(change);
+    let put = put_by(change);
+    let earlier = sheet::count_denies(pair, place);
+    let groups = sheet::count_denies(pair, gate);
+    let wide = Around {
+        earlier,
+        later: groups,
+        groups,
+        place,
+        to: renewed,
+    };
+    if any_allow(pair, place, taken) {
+        return wide;
+    }
+    if any_allow(order, place, put) {
+        return wide;
+    }
+    let later = sheet::count_denies(pair, place + taken);
+    Around {
+        earlier,
+        later,
+        groups,
+        place,
+        to: place + put,
+    }
+}
+
+// Where the groups of the new A come from; an edit of B keeps them all.
 fn places(
     pair: &[u8],
     gate: usize,
@@ -150,41 +203,16 @@ fn places(
     requires { ⌜ (sectionSize gate ≤ length (now pair)) × (sectionSize renewed ≤ length (now order)) × (Inside (eqb list 0) place change gate renewed) ⌝ }
     ensures { λ r. ⌜ r ≡ aroundOf (eqb list 0) place change (rulesOf gate (now (pair .entry))) (rulesOf renewed (now (order .entry))) ⌝ }
 {
-    let groups = sheet::count_denies(pair, gate);
-    if list != 0 {
-        return Around {
-            earlier: groups,
-            later: groups,
-            groups,
-            place: gate,
-            to: gate,
-        };
+    if list == 0 {
+        return gate_places(pair, gate, place, change, order, renewed);
     }
-    let taken = taken_by(change);
-    let put = put_by(change);
-    let earlier = sheet::count_denies(pair, place);
-    let later = sheet::count_denies(pair, place + taken);
-    let first = sheet::count_denies(order, place);
-    let new = sheet::count_denies(order, place + put);
-    let wide = Around {
-        earlier,
+    let groups = sheet::count_denies(pair, gate);
+    Around {
+        earlier: groups,
         later: groups,
         groups,
-        place,
-        to: renewed,
-    };
-    if later != earlier + taken {
-        return wide;
-    }
-    if new != first + put {
-        return wide;
-    }
-    Around {
-        earlier,
-        later,
-        groups,
-        place,
-        to: place + put,
+        place: gate,
+        to: gate,
     }
 }
 

@@ -16,7 +16,7 @@ use Rattle.policy.specs.Refusals.{Outcome, refused, faults, numberOf}
 use Rattle.policy.specs.Move.{Slot, slots, boxesOf, together, anyOver, work, room, Order, Pair}
 use Rattle.policy.specs.declared.Answer.the-variants.{Length, Refused}
 use Rattle.policy.specs.declared.Refusal.{Refusal}
-use Rattle.policy.specs.declared.Refusal.the-variants.{TooManyPieces, TooManyBoxes}
+use Rattle.policy.specs.declared.Refusal.the-variants.{TooManyBoxes}
 use Rattle.groups.specs.Worked.{workSize}
 use Rattle.policy.proofs.Numbers.{orElse-zero}
 use Rattle.policy.proofs.Edits.{slots-append, kept-boxes, faults-append, list-accepted}
@@ -105,10 +105,10 @@ module _ {sheet order draft w : List ℕ} {used from gate own : ℕ} {v : Around
       }
 
   module _ (rules : List ℕ) (is : rules ≡ drop countSize order) {draft′ w′ : List ℕ} where
-    pub finish-six : DraftedAround groups rules v draft w D.TooManyPieces draft′ w′
-        → Writes pairBytes (pairSize limits) (slotted o l) sheet w (Refused TooManyPieces) sheet w′
+    pub finish-six : (f : Refusal) → numberOf f ≡ 6 → DraftedAround groups rules v draft w D.TooManyPieces draft′ w′
+        → Writes pairBytes (pairSize limits) (slotted o l) sheet w (Refused f) sheet w′
     unfolding slotted room work
-    finish-six x = refuses pairBytes (pairSize limits) _ sheet w w′ TooManyPieces (rw (drawn-over (rw is at (x .drafting)))) (x .beyond)
+    finish-six f e x = refuses pairBytes (pairSize limits) _ sheet w w′ f (rw (drawn-over (rw is at (x .drafting)), e)) (x .beyond)
 
     module _ {b end : ℕ} (x : DraftedAround groups rules v draft w (D.Groups b end) draft′ w′) where
       drafting : Drafting limits l draft 0 0 (D.Groups b end) draft′

@@ -45,10 +45,10 @@ module _ {s : List ℕ} {n m middle : ℕ} (a : OrderAccepted s n m middle) wher
   unfolding groupsFrom rulesIn allowsIn
   all-anew groups = append-none (slotsOf o)
 
-  pub plan-ready : {sheet draft w : List ℕ} → OrderRead s (Parts n m middle) → pairSize limits ≤ length sheet → draftSize limits ≤ length draft → workSize limits ≤ length w
-      → Finishing sheet 0 0 s n m (fresh n) draft w
+  pub plan-ready : {sheet draft w : List ℕ} (to : ℕ) → to ≡ n → OrderRead s (Parts n m middle) → pairSize limits ≤ length sheet → draftSize limits ≤ length draft → workSize limits ≤ length w
+      → Finishing sheet 0 0 s n m (fresh to) draft w
   unfolding groupsFrom groupsBytes together Each
-  plan-ready {sheet} reads h k j = record {
+  plan-ready {sheet} to e reads h k j = rw e (record {
     reads = rw (a .place .gateEnd) at reads;
     held = record { boxes = tt; bytes = refl; there = omega arith; few = omega arith };
     placed = record {
@@ -65,10 +65,10 @@ module _ {s : List ℕ} {n m middle : ℕ} (a : OrderAccepted s n m middle) wher
     sheetRoom = h;
     room = k;
     workRoom = j;
-  }
+  })
 
-  pub plan-done : {sheet w sheet′ w′ : List ℕ} {r : Answer}
-      → Writes pairBytes (pairSize limits) (slotted (listsOf n m (sectionSize n) s) (slotsAround (fresh n) (partOf 0 0 sheet) (drop countSize s))) sheet w r sheet′ w′
+  pub plan-done : {sheet w sheet′ w′ : List ℕ} {r : Answer} (to : ℕ) → to ≡ n
+      → Writes pairBytes (pairSize limits) (slotted (listsOf n m (sectionSize n) s) (slotsAround (fresh to) (partOf 0 0 sheet) (drop countSize s))) sheet w r sheet′ w′
       → Planned s sheet w r sheet′ w′
   unfolding moveOf planOf slotted
-  plan-done {sheet} x = rw (a .reads) (rw (all-anew (partOf 0 0 sheet), ← a .place .gateEnd) at x)
+  plan-done {sheet} to e x = rw (a .reads) (rw (e, all-anew (partOf 0 0 sheet), ← a .place .gateEnd) at x)

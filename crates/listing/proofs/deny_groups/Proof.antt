@@ -32,7 +32,7 @@ deny-boxes-requires c κs =
     let h = c .before .before .before .loop in
     let s = c .before .before .before .before .before .before .args .sheet .now in
     let n = c .before .count-at in
-    let z = group-count s (h .start) {left = h .more} (n .ensures .0) (c .before .before .loop-test .taken) in
+    let z = group-count s (h .start) {left = h .more} (n .ensures .0) (omega (arith, c .before .before .loop-test .taken)) in
     (omega arith, omega (arith, h .inv .2 .long))
 
 mul-start : tie.Need-mul-start Inv-loop μ-loop
@@ -43,7 +43,7 @@ add-start-2 c =
     let h = c .before .before .before .before .before .before .loop in
     let s = c .before .before .before .before .before .before .before .before .before .args .sheet .now in
     let n = c .before .before .before .before .count-at in
-    let z = group-count s (h .start) {left = h .more} (n .ensures .0) (c .before .before .before .before .before .loop-test .taken) in
+    let z = group-count s (h .start) {left = h .more} (n .ensures .0) (omega (arith, c .before .before .before .before .before .loop-test .taken)) in
     omega arith
 
 mul-place : tie.Need-mul-place Inv-loop μ-loop
@@ -54,7 +54,7 @@ add-place c =
     let h = c .before .before .before .before .before .before .loop in
     let s = c .before .before .before .before .before .before .before .before .before .args .sheet .now in
     let n = c .before .before .before .before .count-at in
-    let z = group-count s (h .start) {left = h .more} (n .ensures .0) (c .before .before .before .before .before .loop-test .taken) in
+    let z = group-count s (h .start) {left = h .more} (n .ensures .0) (omega (arith, c .before .before .before .before .before .loop-test .taken)) in
     omega (arith, h .inv .2 .long)
 
 sub-more : tie.Need-sub-more Inv-loop μ-loop
@@ -68,9 +68,9 @@ loop-again c =
     let h = c .before .before .before .before .before .before .loop in
     let s = c .before .before .before .before .before .before .before .before .before .args .sheet .now in
     let n = c .before .before .before .before .count-at in
-    let z = group-count s (h .start) {left = h .more} (n .ensures .0) (c .before .before .before .before .before .loop-test .taken) in
+    let z = group-count s (h .start) {left = h .more} (n .ensures .0) (omega (arith, c .before .before .before .before .before .loop-test .taken)) in
     let all = bytes-all s (λ i. omega (arith, c .before .before .before .before .before .before .before .shared-slice-known .given i)) in
-    (omega arith, omega arith, groups-next s (h .start) (n .ensures .0) (c .before .before .before .before .before .loop-test .taken) all (omega arith) (h .inv .2) (c .before .before .deny-boxes .ensures))
+    (omega arith, omega arith, groups-next s (h .start) (n .ensures .0) (omega (arith, c .before .before .before .before .before .loop-test .taken)) all (omega arith) (h .inv .2) (c .before .before .deny-boxes .ensures))
 
 same-length : tie.Need-same-length Inv-loop μ-loop
 same-length c = search needs

@@ -1,6 +1,7 @@
 -- `finish` meets its contract, arm by arm. Assumes nothing.
 use borrow.Author.Needs.{needs}
 use native.Mathlib.Omega.{arith}
+use mathlib.Core.Path.{refl}
 use lib.ListN.{length-take}
 use Rattle.lists.proofs.Parts.{tail-whole}
 use Rattle.policy.specs.Fields.{countSize}
@@ -138,7 +139,7 @@ returns-2 c =
     let order = start .args .order .now in
     let all = bytes-all order (λ i. omega (arith, c .before .before .before .before .before .before .before .before .before .before .before .before .before .before .shared-slice-known .given i)) in
     let rules = tail-whole order countSize (omega (arith, order-long ready all)) in
-    finish-six ready all _ rules (rw (c .enum-told .given .1) at (c .before .before .before .before .before .before .draft-around .ensures))
+    finish-six ready all _ rules _ refl (rw (c .enum-told .given .1) at (c .before .before .before .before .before .before .draft-around .ensures))
 
 same-length-7 : tie.Need-same-length-7
 same-length-7 c = search needs

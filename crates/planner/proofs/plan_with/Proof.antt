@@ -22,7 +22,7 @@ finish-requires c κs =
     let read = c .before .before .before .before .before .before .read-order .ensures in
     let bytes = bytes-all (start .args .order .now) (λ i. omega (arith, c .before .before .before .before .before .before .before .before .before .before .shared-slice-known .given i)) in
     let a = order-accepted read bytes _ _ _ (c .before .before .before .before .gate .given .1) in
-    plan-ready a (rw (c .before .before .before .before .gate .given .1) at read) (start .pre .0) (start .pre .1) (start .pre .2)
+    plan-ready a _ (omega arith) (rw (c .before .before .before .before .gate .given .1) at read) (start .pre .0) (start .pre .1) (start .pre .2)
 
 returns : tie.Need-returns
 returns c = plan-refused _ _ _ _ (order-refused (c .before .before .before .read-order .ensures) _ (c .before .f .given .1))
@@ -42,7 +42,7 @@ returns-2 c =
     let read = c .before .before .before .before .before .before .before .before .before .before .before .before .before .read-order .ensures in
     let bytes = bytes-all (start .args .order .now) (λ i. omega (arith, c .before .before .before .before .before .before .before .before .before .before .before .before .before .before .before .before .before .shared-slice-known .given i)) in
     let a = order-accepted read bytes _ _ _ (c .before .before .before .before .before .before .before .before .before .before .before .gate .given .1) in
-    plan-done a (c .before .before .before .before .before .before .finish .ensures)
+    plan-done a _ (omega arith) (c .before .before .before .before .before .before .finish .ensures)
 
 pub plan-with-spec : {M : Type 1} → statement M
 plan-with-spec =
