@@ -1,17 +1,24 @@
--- The printed example, computed: the move is accepted and gives the printed cell list. Assumes nothing.
+-- The printed example, computed: the move is accepted and gives the printed cell list, and where its first allow is then taken
+-- out, no piece that was cut for it is kept. Assumes nothing.
 use mathlib.Core.Path.{_≡_, refl}
+use mathlib.Core.Bool.{true}
 use Rattle.policy.specs.Fields.{highest, limits}
 use Rattle.policy.specs.Ranges.{fullOver, everyField}
 use Rattle.policy.specs.Cut.{pieces, cut, cutEach, group}
-use Rattle.policy.specs.Rules.{sound, complete}
+use Rattle.policy.specs.Rules.{denies, allowsIn, anyAllow, sound, complete}
 use Rattle.policy.specs.Refusals.{faults}
 use Rattle.policy.specs.Move.{slots, boxesOf, together, over, overSlot, anyOver, work, room, denials, moved, cellList, listRefusal, moveRefusal}
-use Rattle.policy.specs.Example.{example, exampleCell}
+use Rattle.policy.specs.Edit.{delete, edited, around}
+use Rattle.policy.specs.Example.{example, exampleCell, exampleUncut}
 
 pub example-cell : cellList (moved example) ≡ exampleCell
-unfolding slots boxesOf group cut pieces cutEach together denials highest fullOver
+unfolding slots boxesOf group cut pieces cutEach together denials highest fullOver allowsIn
 example-cell = refl
 
 pub example-accepted : moveRefusal limits example ≡ 0
 unfolding moveRefusal listRefusal slots boxesOf group cut pieces cutEach together highest fullOver everyField room work anyOver overSlot over faults sound complete
 example-accepted = refl
+
+pub example-edited : edited (record { inGate = true; place = 0; kind = delete }) (moved example) .groups ≡ exampleUncut
+unfolding around slots boxesOf group cut pieces cutEach highest fullOver denies allowsIn anyAllow
+example-edited = refl

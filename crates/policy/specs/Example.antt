@@ -24,3 +24,7 @@ exampleCell =
     ∷ rule (reaching 10 19 81 65535 6 6) 0
     ∷ rule full 1
     ∷ []
+
+-- The groups once the gate's first rule is taken out: the deny rule's box whole.
+abbrev pub exampleUncut : List (List Region)
+exampleUncut = (reaching 0 29 0 65535 6 6 ∷ []) ∷ []
