@@ -1,12 +1,12 @@
 -- Lookup of a packet in a table of rules in memory (01, Calls), and the words in which its code goes about it.
 -- Assumes nothing.
 use mathlib.Core.List.{List}
-use mathlib.Core.Bool.{Bool, _&&_}
+use mathlib.Core.Bool.{Bool, cond, _&&_}
 use Prim.Native.Nat.{ℕ}
 use lib.Dec.{leb, ltb, eqb}
 use lib.ListN.{length, replicate}
 use Rattle.policy.specs.Fields.{fields}
-use Rattle.policy.specs.Ranges.{Packet}
+use Rattle.policy.specs.Ranges.{Range, Packet, within}
 use Rattle.policy.specs.Rules.{Rule}
 use Rattle.policy.specs.Refusals.{Outcome, refused, test}
 use Rattle.policy.specs.declared.Rule.{Rule as RuleValue}
@@ -27,6 +27,10 @@ counted most n = lookupNumber (test (leb 1 n) 2 (test (leb n most) 2 (refused 5)
 -- Whether the rule at place i of n is still to be tried.
 unfoldable pub goingOn : ℕ → ℕ → ℕ → Bool
 goingOn i n answer = ltb i n && eqb answer noneFits
+
+-- 1 for a value outside a range, 0 for one inside it.
+abbrev pub missOf : ℕ → Range → ℕ
+missOf x r = cond (within x r) 0 1
 
 -- What stands past a table's end.
 abbrev pub blank : RuleValue

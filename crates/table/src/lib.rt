@@ -11,14 +11,14 @@ use policy::TOTAL_MOST;
 use policy::number_of;
 ghost use mathlib.Core.Path.{_≡_};
 ghost use mathlib.Core.List.{[], _∷_, map};
-ghost use Prim.Native.Nat.{_<_};
+ghost use Prim.Native.Nat.{_<_, _≤_};
 ghost use lib.ListN.{length, getD};
 ghost use Rattle.policy.specs.Fields.{limits};
-ghost use Rattle.policy.specs.Ranges.{inside, Whole};
+ghost use Rattle.policy.specs.Ranges.{range, inside, Whole};
 ghost use Rattle.policy.specs.Refusals.{refused, numberOf};
 ghost use Rattle.policy.specs.Values.{regionOf, ruleOf, packetOf};
 ghost use Rattle.filter.specs.Lookup.{lookFrom, lookupNumber};
-ghost use Rattle.table.specs.Table.{blank, counted, goingOn, lookupTable};
+ghost use Rattle.table.specs.Table.{blank, counted, goingOn, lookupTable, missOf};
 
 // A refusal as the number for C.
 fn refused_number(f: Refusal) -> u32
@@ -27,18 +27,29 @@ fn refused_number(f: Refusal) -> u32
     REFUSAL_BASE + number_of(f)
 }
 
-// A box that is not empty has the packet if every field is in its range.
+// 1 for a field outside its range, 0 for one inside it.
+fn miss(x: u32, low: u32, high: u32) -> u32
+    requires { ⌜ low ≤ high ⌝ }
+    ensures { λ r. ⌜ (r ≡ missOf x (range low high)) × (r ≤ 1) ⌝ }
+{
+    if is_within(x, low, high) {
+        return 0;
+    }
+    1
+}
+
+// A box that is not empty has the packet if no field is outside its range. The misses are counted, and none ends the count: so the
+// time does not hang on which field misses.
 fn is_inside(p: Packet, bounds: Box) -> bool
     requires { ⌜ Whole (regionOf bounds) ⌝ }
     ensures { λ r. ⌜ r ≡ inside (packetOf p) (regionOf bounds) ⌝ }
 {
     let values = p.values;
+    let mut missed: u32 = 0;
     for k in 0..FIELDS {
-        if !is_within(values[k], bounds.low_at(k), bounds.high_at(k)) {
-            return false;
-        }
+        missed += miss(values[k], bounds.low_at(k), bounds.high_at(k));
     }
-    true
+    missed == 0
 }
 
 // The answer before any rule is looked at: none fits so far, unless the count is outside its limits.
