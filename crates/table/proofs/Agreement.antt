@@ -21,12 +21,12 @@ use Rattle.filter.specs.Lookup.{Hit, lookFrom, listBytes, listSize, lookup, ref
 use Rattle.filter.specs.Verdicts.{decidedBy}
 use Rattle.filter.proofs.Lists.{listBytes-length, count-back, list-back, look-first}
 use Rattle.filter.proofs.Verdicts.{Small, look-small, tells}
-use Rattle.table.specs.Table.{lookupTable}
+use Rattle.table.specs.Table.{lookupTable, Storable, Agrees}
 
--- From rules to bytes: whatever bytes can hold, with any count that a count's bytes can say, bad rules included.
-pub table-agrees : (most : ℕ) (p : Packet) (l : List Rule) → Each RuleFits l → length l < 256 ^ countSize → lookup most p (listBytes l) ≡ lookupTable most p l
+-- From rules to bytes.
+rules-agree : (most : ℕ) (p : Packet) (l : List Rule) → Each RuleFits l → length l < 256 ^ countSize → lookup most p (listBytes l) ≡ lookupTable most p l
 unfolding lookup lookupTable
-table-agrees most p l fit few =
+rules-agree most p l fit few =
     let e = listBytes-length l fit in
     rw (
       le-leb countSize (length (listBytes l)) (omega arith),
@@ -35,8 +35,8 @@ table-agrees most p l fit few =
       list-back l fit,
     ) refl
 
--- From bytes to rules: bytes of the length that their count says.
-pub bytes-agree : (most : ℕ) (p : Packet) (s : List ℕ) (n : ℕ) → n ≡ numberIn (take countSize s) → length s ≡ listSize n
+-- From bytes to rules.
+bytes-agree : (most : ℕ) (p : Packet) (s : List ℕ) (n : ℕ) → n ≡ numberIn (take countSize s) → length s ≡ listSize n
     → lookupTable most p (rulesIn n (drop countSize s)) ≡ lookup most p s
 unfolding lookup lookupTable
 bytes-agree most p s n is e =
@@ -47,12 +47,15 @@ bytes-agree most p s n is e =
       eq-eqb (length s) (listSize n) e,
     ) refl
 
+pub table-agrees : (most : ℕ) (p : Packet) → Agrees most p
+table-agrees most p = record { as-bytes = rules-agree most p; as-rules = bytes-agree most p }
+
 -- A rule with a number that its bytes could not hold is bad.
 unfit : (r : Rule) (t : Bool) → sound r ≡ t → (RuleFits r → ⊥) → t ≡ false
 unfit r true e h = absurd (h (sound-fits r e))
 unfit r false e h = refl
 
-pub unfit-bad : (r : Rule) → (RuleFits r → ⊥) → sound r ≡ false
+pub unfit-bad : (r : Rule) → (Storable r → ⊥) → sound r ≡ false
 unfit-bad r h = unfit r (sound r) refl h
 
 module _ (most : ℕ) (p : Packet) (l : List Rule) where
