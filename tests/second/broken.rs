@@ -314,16 +314,25 @@ pub fn lookup(mut packet: Packet, list: &[u8]) -> u32 {
     }
 }
 
-pub fn lookup_table(packet: Packet, table: &[u32]) -> u32 {
+pub fn lookup_table(mut packet: Packet, table: &[u32]) -> u32 {
     let mut table = table.to_vec();
+    if shows("table-cuts-packet") {
+        packet.iter_mut().zip(HIGHEST).for_each(|(value, highest)| *value &= highest);
+    }
     if shows("table-cuts-values") {
         let highest = HIGHEST.iter().chain(&HIGHEST).chain(&[u32::MAX as u64]).cycle();
         table.iter_mut().zip(highest).for_each(|(value, &most)| *value &= most as u32);
     }
     let answer = encode(calls::lookup_table(&packet, &table));
     let rules = table.chunks(calls::RULE_NUMBERS);
-    if shows("table-limit-1023") && rules.len() == 1_024 {
-        return refused(2);
+    match rules.len() {
+        0 if shows("table-none-is-5") => return refused(5),
+        1_024 if shows("table-limit-1023") => return refused(2),
+        1_025 if shows("table-limit-1025") => {
+            let most = &table[..1_024 * calls::RULE_NUMBERS];
+            return encode(calls::lookup_table(&packet, most));
+        }
+        _ => (),
     }
     if shows("table-skips-bad") && answer == refused(4) {
         let sound = rules.filter(|numbers| numbers_rule(numbers).is_some());
