@@ -2,14 +2,14 @@
 use crate::measure::{compare, put, Random, Version};
 use std::hint::black_box;
 
-const FIELDS: usize = 5;
+pub const FIELDS: usize = 5;
 const WIDTH: [usize; FIELDS] = [4, 4, 2, 2, 1];
-const HIGHEST: [u32; FIELDS] = [u32::MAX, u32::MAX, 65535, 65535, 255];
-const RECORD: usize = 27;
-const RULES: usize = 1024;
-const CALLS: usize = 48;
+pub const HIGHEST: [u32; FIELDS] = [u32::MAX, u32::MAX, 65535, 65535, 255];
+pub const RECORD: usize = 27;
+pub const RULES: usize = 1024;
+pub const CALLS: usize = 48;
 
-type Packet = [u32; FIELDS];
+pub type Packet = [u32; FIELDS];
 
 extern "C" {
     fn foldplover_lookup(src: u32, dst: u32, sport: u32, dport: u32, proto: u32, list: *const u8, len: usize) -> u32;
@@ -17,7 +17,7 @@ extern "C" {
     fn lookup_straight(src: u32, dst: u32, sport: u32, dport: u32, proto: u32, list: *const u8, len: usize) -> u32;
 }
 
-fn library(p: &Packet, list: &[u8]) -> u32 {
+pub fn library(p: &Packet, list: &[u8]) -> u32 {
     unsafe { foldplover_lookup(p[0], p[1], p[2], p[3], p[4], list.as_ptr(), list.len()) }
 }
 
@@ -30,10 +30,11 @@ fn c_straight(p: &Packet, list: &[u8]) -> u32 {
 }
 
 // Safe Rust: a record decoded to a struct, its test, and a labelled loop over the fields.
-struct Rule {
-    low: [u32; FIELDS],
-    high: [u32; FIELDS],
-    action: u32,
+#[repr(C)]
+pub struct Rule {
+    pub low: [u32; FIELDS],
+    pub high: [u32; FIELDS],
+    pub action: u32,
 }
 
 fn four(s: &[u8]) -> u32 {
@@ -44,7 +45,7 @@ fn two(s: &[u8]) -> u32 {
     u16::from_be_bytes([s[0], s[1]]) as u32
 }
 
-fn decode(s: &[u8; RECORD]) -> Rule {
+pub fn decode(s: &[u8; RECORD]) -> Rule {
     Rule {
         low: [four(&s[0..]), four(&s[8..]), two(&s[16..]), two(&s[20..]), s[24] as u32],
         high: [four(&s[4..]), four(&s[12..]), two(&s[18..]), two(&s[22..]), s[25] as u32],
@@ -81,7 +82,7 @@ fn rust(p: &Packet, list: &[u8]) -> u32 {
 }
 
 // A list whose rules before the last each miss the packet in the field that `miss` picks; the last is full.
-fn list(random: &mut Random, p: &Packet, miss: fn(&mut Random) -> usize) -> Vec<u8> {
+pub fn list(random: &mut Random, p: &Packet, miss: fn(&mut Random) -> usize) -> Vec<u8> {
     let mut out = Vec::new();
     put(&mut out, RULES as u32, 2);
     for i in 0..RULES {
@@ -102,19 +103,27 @@ fn list(random: &mut Random, p: &Packet, miss: fn(&mut Random) -> usize) -> Vec<
     out
 }
 
+pub const PACKET: Packet = [3_000_000_000, 2_000_000_000, 30_000, 40_000, 100];
+
+// A kind of lists: what it is called, the field in which a rule misses, and how many lists are looked up in turn.
+pub type Kind = (&'static str, fn(&mut Random) -> usize, usize);
+
+pub fn kinds() -> [Kind; 4] {
+    let first: fn(&mut Random) -> usize = |_| 0;
+    let last: fn(&mut Random) -> usize = |_| FIELDS - 1;
+    let any: fn(&mut Random) -> usize = |r| r.next(FIELDS as u64) as usize;
+    [("field 1 misses", first, 1), ("field 5 misses", last, 1), ("mixed, one list", any, 1), ("mixed, 16 lists", any, 16)]
+}
+
 pub fn run() {
     println!();
     println!("lookup: {RULES} rules, the last fits; {CALLS} calls at a time");
     println!("one list is met again and again, so its branches are predictable; those of 16 mixed lists in turn are not");
     println!("gcc makes branch-free code of the C loops: about the same time on every list");
     let versions: [Version<fn(&Packet, &[u8]) -> u32>; 4] = [("library", library), ("C loops", c_loops), ("C straight", c_straight), ("safe Rust", rust)];
-    let p: Packet = [3_000_000_000, 2_000_000_000, 30_000, 40_000, 100];
+    let p = PACKET;
     let mut random = Random(0x9E37_79B9_7F4A_7C15);
-    let first: fn(&mut Random) -> usize = |_| 0;
-    let last: fn(&mut Random) -> usize = |_| FIELDS - 1;
-    let any: fn(&mut Random) -> usize = |r| r.next(FIELDS as u64) as usize;
-    let kinds = [("field 1 misses", first, 1), ("field 5 misses", last, 1), ("mixed, one list", any, 1), ("mixed, 16 lists", any, 16)];
-    for (what, miss, how_many) in kinds {
+    for (what, miss, how_many) in kinds() {
         let lists: Vec<Vec<u8>> = (0..how_many).map(|_| list(&mut random, &p, miss)).collect();
         for l in &lists {
             let answers: Vec<u32> = versions.iter().map(|(_, f)| f(&p, l)).collect();

@@ -169,9 +169,8 @@ uint32_t foldplover_lookup(uint32_t src, uint32_t dst, uint32_t sport, uint32_t 
                            uint32_t proto,
                            const uint8_t *list, size_t list_len);
 
-#ifdef FOLDPLOVER_TABLE
 /* A rule in memory, fields in the order source, destination, source port, destination port,
- * protocol. Where C++ sees foldplover_rule as the call below, write struct foldplover_rule. */
+ * protocol. The call foldplover_rule has the same name: write struct foldplover_rule. */
 struct foldplover_rule {
     uint32_t low[5];
     uint32_t high[5];
@@ -180,15 +179,15 @@ struct foldplover_rule {
 
 /*
  * The same lookup in a table of rules in memory. Rules read from a list get the list's answers.
+ * count is the number of rules; a count of 0 still takes a valid pointer.
  *
- * Answers 2 x place + action. Writes nothing.
+ * Answers 2 x place + action. Writes nothing, and looks at no rule behind the one found.
  * Refuses in this order: 2 (count not 1 to 1,024); then from rule to rule 4 (a bad one, such as a
  * port over 65,535, before any that has the packet); 5 (none has).
  */
 uint32_t foldplover_lookup_table(uint32_t src, uint32_t dst, uint32_t sport, uint32_t dport,
                                  uint32_t proto,
                                  const struct foldplover_rule *rules, size_t count);
-#endif
 
 /*
  * Splits an order sheet into its A list and its B list.

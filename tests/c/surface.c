@@ -259,6 +259,60 @@ static void test_lookup(void)
     expect("no rule", lookup(9, 80, 6), REFUSAL(FOLDPLOVER_COUNT));
 }
 
+static uint32_t lookup_table(uint32_t dst, uint32_t dport, uint32_t proto,
+                             const struct foldplover_rule *rules, size_t count)
+{
+    return foldplover_lookup_table(1, dst, 5, dport, proto, rules, count);
+}
+
+/* The cell list's rules as structs: the answers of test_lookup, and what only numbers can have. */
+static void test_lookup_table(void)
+{
+    static struct foldplover_rule rules[FOLDPLOVER_MOST_RULES + 1];
+    struct foldplover_rule full;
+    uint32_t numbers[FOLDPLOVER_NUMBERS];
+    size_t place;
+    expect("a struct's size", sizeof full, FOLDPLOVER_NUMBERS * sizeof numbers[0]);
+    for (place = 0; place < 5; place++) {
+        expect("a rule of the cell list",
+               foldplover_rule(list + 2 + place * RECORD, RECORD, numbers, FOLDPLOVER_NUMBERS), 0);
+        memcpy(&rules[place], numbers, sizeof numbers);
+    }
+    expect("table: destination 9", lookup_table(9, 80, 6, rules, 5), 0);
+    expect("table: destination 20", lookup_table(20, 80, 6, rules, 5), 2);
+    expect("table: destination port 81", lookup_table(15, 81, 6, rules, 5), 6);
+    expect("table: destination port 80", lookup_table(15, 80, 6, rules, 5), 9);
+    expect("table: four rules", lookup_table(15, 80, 6, rules, 4), REFUSAL(FOLDPLOVER_INCOMPLETE));
+    expect("table: protocol 256", lookup_table(15, 80, 256, rules, 5),
+           REFUSAL(FOLDPLOVER_INCOMPLETE));
+    expect("table: port 65,536", lookup_table(15, 65536, 6, rules, 5),
+           REFUSAL(FOLDPLOVER_INCOMPLETE));
+    expect("table: no rule", lookup_table(9, 80, 6, rules, 0), REFUSAL(FOLDPLOVER_COUNT));
+    full = rules[4];
+    rules[1].high[2] = 65536;
+    expect("table: before port 65,536", lookup_table(9, 80, 6, rules, 5), 0);
+    expect("table: at port 65,536", lookup_table(20, 80, 6, rules, 5),
+           REFUSAL(FOLDPLOVER_BAD_RULE));
+    rules[1] = full;
+    rules[1].action = 2;
+    expect("table: before action 2", lookup_table(9, 80, 6, rules, 5), 0);
+    expect("table: at action 2", lookup_table(20, 80, 6, rules, 5), REFUSAL(FOLDPLOVER_BAD_RULE));
+    rules[1] = full;
+    rules[1].low[0] = 8;
+    rules[1].high[0] = 7;
+    expect("table: low above high", lookup_table(20, 80, 6, rules, 5),
+           REFUSAL(FOLDPLOVER_BAD_RULE));
+    for (place = 0; place <= FOLDPLOVER_MOST_RULES; place++) {
+        rules[place] = full;
+        rules[place].high[4] = 5;
+    }
+    rules[FOLDPLOVER_MOST_RULES - 1] = full;
+    expect("table: the last of 1,024", lookup_table(9, 80, 6, rules, FOLDPLOVER_MOST_RULES),
+           2 * (FOLDPLOVER_MOST_RULES - 1) + 1);
+    expect("table: 1,025 rules", lookup_table(9, 80, 6, rules, FOLDPLOVER_MOST_RULES + 1),
+           REFUSAL(FOLDPLOVER_COUNT));
+}
+
 static uint32_t insert(uint32_t which, size_t place, const uint8_t *record, size_t length)
 {
     return foldplover_insert(sheet, sizeof sheet, PAIR_LENGTH, which, place, record, length, work,
@@ -400,6 +454,7 @@ int main(void)
     move_dairy();
     test_gate_list();
     test_cell_list();
+    test_lookup_table();
     test_lookup();
     test_edits();
     test_edit_refusals();

@@ -314,13 +314,43 @@ pub fn lookup(mut packet: Packet, list: &[u8]) -> u32 {
     }
 }
 
-pub fn lookup_table(packet: Packet, table: &[u32]) -> u32 {
+pub fn lookup_table(mut packet: Packet, table: &[u32]) -> u32 {
     let mut table = table.to_vec();
+    if shows("table-cuts-packet") {
+        packet.iter_mut().zip(HIGHEST).for_each(|(value, highest)| *value &= highest);
+    }
     if shows("table-cuts-values") {
         let highest = HIGHEST.iter().chain(&HIGHEST).chain(&[u32::MAX as u64]).cycle();
         table.iter_mut().zip(highest).for_each(|(value, &most)| *value &= most as u32);
     }
-    encode(calls::lookup_table(&packet, &table))
+    let answer = encode(calls::lookup_table(&packet, &table));
+    let rules = table.chunks(calls::RULE_NUMBERS);
+    match rules.len() {
+        0 if shows("table-none-is-5") => return refused(5),
+        1_024 if shows("table-limit-1023") => return refused(2),
+        1_025 if shows("table-limit-1025") => {
+            let most = &table[..1_024 * calls::RULE_NUMBERS];
+            return encode(calls::lookup_table(&packet, most));
+        }
+        _ => (),
+    }
+    if shows("table-skips-bad") && answer == refused(4) {
+        let sound = rules.filter(|numbers| numbers_rule(numbers).is_some());
+        return encode(calls::lookup_table(&packet, &sound.flatten().copied().collect::<Vec<_>>()));
+    }
+    if !accepted(answer) {
+        return answer;
+    }
+    match shows("table-reads-all") && rules.clone().any(|numbers| numbers_rule(numbers).is_none()) {
+        true => refused(4),
+        false if shows("table-place-from-1") => answer + 2,
+        false => answer,
+    }
+}
+
+fn numbers_rule(numbers: &[u32]) -> Option<Rule> {
+    let values: Vec<u64> = numbers.iter().map(|&number| number.into()).collect();
+    sheets::rule_of_numbers(&values)
 }
 
 pub fn split(order: &[u8], a: &mut [u8], b: &mut [u8]) -> u32 {

@@ -208,7 +208,7 @@ impl Driver {
     pub fn lookup(&mut self, packet: &Packet, list: &[u8]) -> Answer {
         let lent = vec![self.input("list", list)];
         let answer = self.step(Step { call: Call::Lookup, words: packet.to_vec(), lent }).0;
-        if cfg!(table) && self.random.chance(30) {
+        if self.random.chance(30) {
             self.hold_table(packet, list, answer);
         }
         answer

@@ -98,10 +98,6 @@ extern "C" {
         record: *mut u8,
         record_len: usize,
     ) -> u32;
-}
-
-#[cfg(table)]
-extern "C" {
     /// A rule is eleven numbers in the order of `struct foldplover_rule`.
     fn foldplover_lookup_table(
         src: u32,
@@ -126,7 +122,6 @@ pub fn by_library(call: Call, words: &[u64], lent: &mut [Lent]) -> u32 {
                 let [src, dst, sport, dport, proto] = packet(words);
                 foldplover_lookup(src, dst, sport, dport, proto, list.0, list.1)
             }
-            #[cfg(table)]
             (Call::LookupTable, &[table]) => {
                 let [src, dst, sport, dport, proto] = packet(words);
                 let (rules, count) = (table.0.cast(), table.1 / 44);

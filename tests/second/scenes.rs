@@ -20,7 +20,8 @@ pub fn play(driver: &mut Driver, case: u64) {
         return row_scene(driver, &shape);
     }
     match driver.random.below(100) {
-        0..=24 => pair_scene(driver, &shape),
+        0..=21 => pair_scene(driver, &shape),
+        22..=24 => table_scene(driver, &shape),
         25..=46 => edit_scene(driver, &shape),
         47..=68 => damage_scene(driver, &shape),
         69..=77 => stale_scene(driver, &shape),
@@ -246,30 +247,60 @@ fn record_scene(driver: &mut Driver, shape: &Shape) {
         driver.whole.clear();
         let numbers = drawn_numbers(driver, &rule);
         driver.record(&numbers);
-        if cfg!(table) {
-            let packet = packets::mixed(&mut driver.random, &[rule]);
-            let whole = numbers.len() / calls::RULE_NUMBERS * calls::RULE_NUMBERS;
-            driver.lookup_table(&packet, &numbers[..whole]);
-        }
     }
 }
 
-/// A rule as numbers: right, or with a value too high for its field, a range upside down, an
-/// action that is none, too few numbers, or more than are read.
+/// Tables in memory: counts at their limits, and faults that only numbers can have, at the rule
+/// that has the packet, before it and behind it.
+fn table_scene(driver: &mut Driver, shape: &Shape) {
+    let few = driver.random.within(2, 12);
+    let count = driver.random.pick(&[0, 1, few, few, few, few, 1_023, 1_024, 1_025]);
+    let rules: Vec<Rule> = (0..count).map(|_| draw::rule(&mut driver.random, shape)).collect();
+    let mut table: Vec<Vec<u32>> = rules.iter().map(sound_numbers).collect();
+    for _ in 0..driver.random.below(3).min(count) {
+        let place = driver.random.index(rules.len());
+        table[place] = spoilt_numbers(driver, &rules[place]);
+    }
+    let table = table.concat();
+    let drawn = [&rules[..], &rows::own(1)].concat();
+    let rule = &drawn[driver.random.index(drawn.len())];
+    for packet in packets::every_corner(&mut driver.random, rule) {
+        driver.lookup_table(&packet, &table);
+    }
+    for _ in 0..6 {
+        let packet = packets::mixed(&mut driver.random, &drawn);
+        driver.lookup_table(&packet, &table);
+    }
+}
+
+fn sound_numbers(rule: &Rule) -> Vec<u32> {
+    sheets::numbers_of_rule(rule).iter().map(|&number| number as u32).collect()
+}
+
+/// A rule as numbers: right, or with a fault, too few numbers, or more than are read.
 fn drawn_numbers(driver: &mut Driver, rule: &Rule) -> Vec<u32> {
+    let mut numbers = sound_numbers(rule);
+    match driver.random.below(12) {
+        0..=4 => return spoilt_numbers(driver, rule),
+        5 => numbers.truncate(driver.random.pick(&[0, 5, 10])),
+        6 => numbers.extend([7; 3]),
+        _ => (),
+    }
+    numbers
+}
+
+/// A value too high for its field, a range upside down, or an action that is none.
+fn spoilt_numbers(driver: &mut Driver, rule: &Rule) -> Vec<u32> {
     let random = &mut driver.random;
     let mut numbers = sheets::numbers_of_rule(rule);
     let field = random.index(FIELDS);
     let above = (HIGHEST[field] + random.pick(&[1, 2, 65_536])).min(u64::from(u32::MAX));
-    match random.below(12) {
+    match random.below(5) {
         0 => numbers[FIELDS + field] = above,
         1 => (numbers[field], numbers[FIELDS + field]) = (above, above),
         2 => numbers[field] = above,
         3 => numbers[field] = numbers[FIELDS + field] + 1,
-        4 => numbers[2 * FIELDS] = random.pick(&[2, 3, 256, 257, 65_536, u64::from(u32::MAX)]),
-        5 => numbers.truncate(random.pick(&[0, 5, 10])),
-        6 => numbers.extend([7; 3]),
-        _ => (),
+        _ => numbers[2 * FIELDS] = random.pick(&[2, 3, 256, 257, 65_536, u64::from(u32::MAX)]),
     }
     numbers.iter().map(|&number| number as u32).collect()
 }

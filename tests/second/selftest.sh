@@ -8,8 +8,7 @@ cd "$(dirname "$0")/../.."
 out=target/mirror
 mkdir -p $out
 rustc -O --edition 2021 --crate-type staticlib -o $out/libfoldplover.a tests/second/mirror.rs
-rustc -O --edition 2021 --cfg library --cfg table -L native=$out -o $out/second \
-    tests/second/main.rs
+rustc -O --edition 2021 --cfg library -L native=$out -o $out/second tests/second/main.rs
 
 $out/second selftest
 $out/second cases 300 4 | cmp - tests/second/cases.bin

@@ -21,7 +21,8 @@ pub enum Call {
     LookupTable,
 }
 
-const CALLS: [Call; 13] = [
+/// The calls of the surface.
+pub const CALLS: [Call; 13] = [
     Call::Move,
     Call::Insert,
     Call::Delete,
@@ -36,11 +37,6 @@ const CALLS: [Call; 13] = [
     Call::Record,
     Call::LookupTable,
 ];
-
-/// The calls of the surface; the table comes last, and with --cfg table only.
-pub fn calls() -> &'static [Call] {
-    &CALLS[..CALLS.len() - usize::from(!cfg!(table))]
-}
 
 impl Call {
     pub fn name(self) -> &'static str {

@@ -4,7 +4,7 @@ use std::collections::BTreeMap;
 
 use crate::calls::Answer;
 use crate::refusals::{Fault, Part, Refusal};
-use crate::step::{calls, Call};
+use crate::step::{Call, CALLS};
 
 const NUMBERS: u32 = 9;
 
@@ -37,7 +37,7 @@ impl Tally {
         print!("{:12} {:>9}", "call", "accepted");
         (1..=NUMBERS).for_each(|number| print!(" {number:>8}"));
         println!();
-        for &call in calls() {
+        for call in CALLS {
             print!("{:12} {:>9}", call.name(), self.accepted.get(&call).unwrap_or(&0));
             (1..=NUMBERS).for_each(|number| print!(" {:>8}", self.of_number(call, number)));
             println!();
@@ -55,7 +55,7 @@ impl Tally {
     /// The answers that can occur and never did.
     pub fn missing(&self) -> Vec<String> {
         let mut missing = Vec::new();
-        for &call in calls() {
+        for call in CALLS {
             if !self.accepted.contains_key(&call) {
                 missing.push(format!("{} accepted", call.name()));
             }

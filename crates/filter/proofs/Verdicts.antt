@@ -33,7 +33,7 @@ pub lookup-once : (v w : Verdict) {o : Outcome Hit} → verdict v ≡ o → verd
 lookup-once v w x y = verdict-once v w (x ∙ sym y)
 
 -- The place of the rule that decides is one of the list, and its action is 0 or 1.
-abbrev Small : ℕ → Hit → Type 0
+abbrev pub Small : ℕ → Hit → Type 0
 Small n h = (h .place < n) × (h .action ≤ 1)
 
 turn-small : (t : Bool) (i n a : ℕ) (rest : Outcome Hit) (h : Hit) → Small n (hit i a) → (rest ≡ accepted h → Small n h)
@@ -41,7 +41,7 @@ turn-small : (t : Bool) (i n a : ℕ) (rest : Outcome Hit) (h : Hit) → Small n
 turn-small true i n a rest h g f e = let d : hit i a ≡ h = cc in subst (λ (x : Hit). Small n x) d g
 turn-small false i n a rest h g f e = f e
 
-look-small : (i : ℕ) (p : Packet) (l : List Rule) (h : Hit) → lookFrom i p l ≡ accepted h → Small (i + length l) h
+pub look-small : (i : ℕ) (p : Packet) (l : List Rule) (h : Hit) → lookFrom i p l ≡ accepted h → Small (i + length l) h
 unfolding lookFrom
 look-small i p [] h e = let z : _≡_ {A = ℕ} 0 1 = cc in absurd (omega arith)
 look-small i p (r ∷ l) h e =
@@ -83,7 +83,7 @@ module _ (most : ℕ) (p : Packet) (s : List ℕ) (v : Verdict) (says : verdict 
   refused-number f m is e = rw e (sym (ap lookupNumber (sym says ∙ ap verdict is)))
 
 -- The number for C tells the whole outcome: no two outcomes of lookups have the same.
-tells : (n : ℕ) → 2 * n ≤ refusalBase → (o q : Outcome Hit) → ((h : Hit) → o ≡ accepted h → Small n h) → ((h : Hit) → q ≡ accepted h → Small n h)
+pub tells : (n : ℕ) → 2 * n ≤ refusalBase → (o q : Outcome Hit) → ((h : Hit) → o ≡ accepted h → Small n h) → ((h : Hit) → q ≡ accepted h → Small n h)
     → lookupNumber o ≡ lookupNumber q → o ≡ q
 unfolding lookupNumber
 tells n b (accepted h) (accepted k) f g e =

@@ -28,7 +28,7 @@ pub enum Verdict {
 }
 
 // One compare for both ends: what is below low wraps round to the highest numbers.
-fn is_within(x: u32, low: u32, high: u32) -> bool
+pub fn is_within(x: u32, low: u32, high: u32) -> bool
     requires { ⌜ low ≤ high ⌝ }
     ensures { λ r. ⌜ r ≡ within x (range low high) ⌝ }
 {

@@ -1,4 +1,6 @@
 // The calls for C. Each hands over to the call of the crate below, and turns its answer into one number.
+pub mod lookup_table;
+
 use filter::REFUSAL_BASE;
 use planner::Change;
 use policy::Answer;
@@ -8,6 +10,7 @@ ghost use mathlib.Core.Path.{_≡_};
 ghost use mathlib.Core.List.{[], _∷_};
 ghost use Rattle.policy.specs.Fields.{limits};
 ghost use Rattle.policy.specs.Refusals.{said};
+ghost use Rattle.policy.specs.Values.{packetOf};
 ghost use Rattle.wire.specs.RecordCalls.{RecordRead, RecordWritten};
 ghost use Rattle.sheet.specs.Split.{Split};
 ghost use Rattle.sheet.specs.Join.{Join};
@@ -126,6 +129,13 @@ pub extern "C" fn foldplover_record(numbers: &[u32], bytes: &mut [u8]) -> u32
     answer_number(wire::record::record(numbers, bytes))
 }
 
+fn packet_of(src: u32, dst: u32, sport: u32, dport: u32, proto: u32) -> Packet
+    ensures { λ r. ⌜ packetOf r ≡ src ∷ dst ∷ sport ∷ dport ∷ proto ∷ [] ⌝ }
+{
+    let values = [src, dst, sport, dport, proto];
+    Packet { values }
+}
+
 #[no_mangle]
 pub extern "C" fn foldplover_lookup(
     src: u32,
@@ -137,6 +147,5 @@ pub extern "C" fn foldplover_lookup(
 ) -> u32
     ensures { λ r. ⌜ r ≡ lookupNumber (lookup (limits .total) (src ∷ dst ∷ sport ∷ dport ∷ proto ∷ []) (now (list .entry))) ⌝ }
 {
-    let values = [src, dst, sport, dport, proto];
-    filter::lookup_number(Packet { values }, list)
+    filter::lookup_number(packet_of(src, dst, sport, dport, proto), list)
 }

@@ -32,12 +32,14 @@ pub const PIECES_MOST: usize = 1024;
 
 pub const TOTAL_MOST: usize = 1024;
 
-// A range for each field.
+// A range for each field. Boxes and rules lie in memory as C lays them out, so that C can lend a table of them.
+#[repr(C)]
 pub struct Box {
     pub low: [u32; FIELDS],
     pub high: [u32; FIELDS],
 }
 
+#[repr(C)]
 pub struct Rule {
     pub bounds: Box,
     pub action: u32,

@@ -1,0 +1,3 @@
+pub mod Misses
+pub mod Turns
+pub mod Agreement
