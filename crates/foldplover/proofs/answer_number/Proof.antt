@@ -24,7 +24,7 @@ returns : tie.Need-returns
 returns c = search needs
 
 returns-2 : tie.Need-returns-2
-returns-2 c = search (needs, refused-number)
+returns-2 c = refused-number (c .before .before .before .before .args .a) _ _ (c .before .before .a2 .given .1) (c .number-of .ensures .0)
 
 pub answer-number-spec : {M : Type 1} → statement M
 answer-number-spec =
