@@ -1,7 +1,8 @@
 // Before anything is measured: the three planners give the same answers and leave the same bytes on random plants, on edits of
 // them, and on the same with a byte changed or cut off.
-use crate::inputs::{own, plant};
+use crate::inputs::own;
 use crate::measure::Random;
+use crate::plants::plant;
 use crate::sheets::{order_of, record_of, REFUSED};
 use crate::versions::{Change, Desk, Edit, Planner, PLANNERS};
 

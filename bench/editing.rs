@@ -12,8 +12,12 @@ enum Way {
     Moves,
 }
 
-const WAYS: [Version<Way>; 4] =
-    [("library", Way::Edits(Planner::Library)), ("plain C", Way::Edits(Planner::PlainC)), ("safe Rust", Way::Edits(Planner::SafeRust)), ("fresh move", Way::Moves)];
+const WAYS: [Version<Way>; 4] = [
+    ("library", Way::Edits(Planner::Library)),
+    ("plain C", Way::Edits(Planner::PlainC)),
+    ("safe Rust", Way::Edits(Planner::SafeRust)),
+    ("fresh move", Way::Moves),
+];
 
 // The lists before an edit and after it; a rule is taken out, put in, or both, at a place of A (list 0) or B (list 1).
 struct Step {
@@ -49,8 +53,8 @@ fn step(input: &Input, what: &str, list: u32, place: usize, change: Change) -> S
     Step { name: format!("{name} {what}"), list, place, change, record: put.map_or(vec![], |r| record_of(&r)), before, after }
 }
 
-// A deny behind every allow, whose own group is as dear as one can be; the first own rule; and the first allow, after which every
-// group is worked out anew.
+// The last deny, whose own group is the dearest; the first own rule; and the first allow, behind which every group is worked out
+// anew.
 fn steps(input: &Input) -> Vec<Step> {
     let changes = [Change::Insert, Change::Delete, Change::Replace];
     let gate = &input.gate;
@@ -78,7 +82,12 @@ fn measure(step: &Step) {
         (turn(&mut desk, way, used, &edit, &order), desk.sheet.clone())
     });
     let (answer, sheet) = &ends[0];
-    assert!(*answer < REFUSED && ends.iter().all(|e| *e == ends[0]), "{}: {:?}", step.name, ends.iter().map(|e| e.0).collect::<Vec<_>>());
+    assert!(
+        *answer < REFUSED && ends.iter().all(|e| *e == ends[0]),
+        "{}: {:?}",
+        step.name,
+        ends.iter().map(|e| e.0).collect::<Vec<_>>()
+    );
     let sizes = [step.after[0].len(), step.after[1].len(), boxes(order.len(), sheet), *answer as usize];
     let times = medians(&WAYS, |way| {
         desk.sheet.copy_from_slice(&before);

@@ -1,8 +1,9 @@
 // Gate lists of several families and sizes: the boxes and pieces that they give, and the time of the library's move. Prints the
 // tables of docs/EVALUATION.md.
-use crate::inputs::{nested, own, plant, rule, single_values, ALLOW, DENY};
+use crate::inputs::{nested, own, rule, single_values, ALLOW, DENY};
 use crate::measure::{median, timed, Random};
 use crate::planner::cut;
+use crate::plants::plant;
 use crate::sheets::{boxes, order_of, Region, Rule, MOST, REFUSED};
 use crate::versions::{Desk, Planner};
 use std::hint::black_box;
@@ -77,7 +78,11 @@ fn families(desk: &mut Desk) {
     family(desk, "single values, one field", [9, 19, 49, 63].iter().map(|m| and_deny_all(single_values(1, *m), 1)));
     family(desk, "single values, two fields", [5, 10, 20, 30, 31].iter().map(|m| and_deny_all(single_values(2, *m), 1)));
     family(desk, "single values, three fields", [3, 6, 9, 10].iter().map(|m| and_deny_all(single_values(3, *m), 1)));
-    family(desk, "single values, one field, half denies", [5, 10, 25, 31, 32].iter().map(|m| and_deny_all(single_values(1, *m), *m as usize)));
+    family(
+        desk,
+        "single values, one field, half denies",
+        [5, 10, 25, 31, 32].iter().map(|m| and_deny_all(single_values(1, *m), *m as usize)),
+    );
 }
 
 // The median and the largest.

@@ -1,15 +1,12 @@
-// The lists that the tables share: gates and cells of full sheets and of ordinary ones, and random plants.
-use crate::measure::Random;
-use crate::sheets::{Rule, FULL, GATE};
+// The lists that the tables share: gates and cells of full sheets and of ordinary ones.
+use crate::plants::full_plant;
+use crate::sheets::{Rule, FULL};
 
 pub struct Input {
     pub name: &'static str,
     pub gate: Vec<Rule>,
     pub own: Vec<Rule>,
 }
-
-// The seed of a plant whose boxes come near the limit.
-const FULL_PLANT: u64 = 17;
 
 pub const ALLOW: u8 = 1;
 pub const DENY: u8 = 0;
@@ -26,13 +23,14 @@ pub fn rule(narrow: &[(usize, u32, u32)], action: u8) -> Rule {
 
 // So many own rules as a cell has them, the last of them full.
 pub fn own(n: usize) -> Vec<Rule> {
-    let mut rules: Vec<Rule> = (1..n as u32).map(|i| rule(&[net(1, i % 16, 8 * (i / 16), 8), (3, 500 + i, 500 + i)], (i % 3 != 0) as u8)).collect();
+    let mut rules: Vec<Rule> =
+        (1..n as u32).map(|i| rule(&[net(1, i % 16, 8 * (i / 16), 8), (3, 500 + i, 500 + i)], (i % 3 != 0) as u8)).collect();
     rules.push(rule(&[], ALLOW));
     rules
 }
 
 // n addresses of plant network a, from host h on.
-fn net(field: usize, a: u32, h: u32, n: u32) -> (usize, u32, u32) {
+pub fn net(field: usize, a: u32, h: u32, n: u32) -> (usize, u32, u32) {
     let low = 0x0A00_0000 + a * 256 + h;
     (field, low, low + n - 1)
 }
@@ -76,7 +74,9 @@ fn swept() -> Input {
 
 // Allows that no two share a source, in three fields; denies behind them, and allow all.
 fn hosts() -> Input {
-    let mut gate: Vec<Rule> = (1..12u32).map(|i| rule(&[(0, 100 * i, 100 * i + 40), (1, 1000 - 10 * i, 2000 + 10 * i), (3, 50 * i, 50 * i + 5)], ALLOW)).collect();
+    let mut gate: Vec<Rule> = (1..12u32)
+        .map(|i| rule(&[(0, 100 * i, 100 * i + 40), (1, 1000 - 10 * i, 2000 + 10 * i), (3, 50 * i, 50 * i + 5)], ALLOW))
+        .collect();
     gate.extend((0..3).map(|i| rule(&[(4, 6 + i, 17 + i)], DENY)));
     gate.push(rule(&[], ALLOW));
     Input { name: "11 allows in three fields, 3 denies", gate, own: own(8) }
@@ -106,55 +106,6 @@ fn dozen() -> Input {
         rule(&[], ALLOW),
     ];
     Input { name: "a plant's dozen", gate, own: own(12) }
-}
-
-// A network, a part of one, one machine or four networks, out of sixteen.
-fn place(random: &mut Random, field: usize) -> (usize, u32, u32) {
-    let a = random.next(16) as u32;
-    match random.next(8) {
-        0..=2 => net(field, a, 0, 256),
-        3 => net(field, a, 64 * random.next(4) as u32, 64),
-        4..=6 => net(field, a, 1 + random.next(8) as u32, 1),
-        _ => net(field, a / 4 * 4, 0, 1024),
-    }
-}
-
-const SERVICES: [(u32, u32); 8] = [(502, 6), (44_818, 6), (4840, 6), (102, 6), (20_000, 6), (443, 6), (123, 17), (161, 17)];
-
-// A service by port and protocol, a protocol alone, the low ports, or nothing.
-fn service(random: &mut Random) -> Vec<(usize, u32, u32)> {
-    let (port, protocol) = SERVICES[random.next(8) as usize];
-    match random.next(8) {
-        0..=4 => vec![(3, port, port), (4, protocol, protocol)],
-        5 => vec![(4, protocol, protocol)],
-        6 => vec![(3, 0, 1023)],
-        _ => vec![],
-    }
-}
-
-// A random gate as a plant may have it: three allows for two denies. Allows name both ends and mostly a service; denies name a
-// destination and sometimes a service. The last rule is full.
-pub fn plant(random: &mut Random, rules: usize, last: u8) -> Vec<Rule> {
-    let mut gate: Vec<Rule> = (1..rules)
-        .map(|_| {
-            let action = (random.next(5) < 3) as u8;
-            let mut narrow = vec![place(random, 1)];
-            if action == ALLOW {
-                narrow.push(place(random, 0));
-            }
-            if action == ALLOW || random.next(2) == 0 {
-                narrow.extend(service(random));
-            }
-            rule(&narrow, action)
-        })
-        .collect();
-    gate.push(rule(&[], last));
-    gate
-}
-
-// A random plant that fills its sheet.
-fn full_plant() -> Input {
-    Input { name: "full, a random plant", gate: plant(&mut Random(FULL_PLANT), GATE, ALLOW), own: own(72) }
 }
 
 pub fn all() -> Vec<Input> {

@@ -90,14 +90,20 @@ fn list(random: &mut Random, p: &Packet, miss: fn(&mut Random) -> usize) -> Vec<
 }
 
 pub fn run() {
-    let versions: [Version<fn(&Packet, &[u8]) -> u32>; 4] = [("library", library), ("C loops", c_loops), ("C straight", c_straight), ("safe Rust", rust)];
+    let versions: [Version<fn(&Packet, &[u8]) -> u32>; 4] =
+        [("library", library), ("C loops", c_loops), ("C straight", c_straight), ("safe Rust", rust)];
     head("lookup, the last rule fits", &["rules", "bytes"], &versions);
     let p: Packet = [3_000_000_000, 2_000_000_000, 30_000, 40_000, 100];
     let mut random = Random(0x9E37_79B9_7F4A_7C15);
     let first: fn(&mut Random) -> usize = |_| 0;
     let last: fn(&mut Random) -> usize = |_| FIELDS - 1;
     let any: fn(&mut Random) -> usize = |r| r.next(FIELDS as u64) as usize;
-    let kinds = [("field 1 misses", first, 1), ("field 5 misses", last, 1), ("mixed, one list (predictable)", any, 1), ("mixed, 16 lists in turn", any, 16)];
+    let kinds = [
+        ("field 1 misses", first, 1),
+        ("field 5 misses", last, 1),
+        ("mixed, one list (predictable)", any, 1),
+        ("mixed, 16 lists in turn", any, 16),
+    ];
     for (what, miss, how_many) in kinds {
         let lists: Vec<Vec<u8>> = (0..how_many).map(|_| list(&mut random, &p, miss)).collect();
         for l in &lists {

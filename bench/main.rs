@@ -9,6 +9,8 @@ mod lookup;
 mod measure;
 mod moving;
 mod planner;
+mod plants;
+mod reading;
 mod sheets;
 mod versions;
 

@@ -1,6 +1,6 @@
 // The three planners under one shape: the library, plain C and safe Rust.
 use crate::planner;
-use crate::sheets::WORK;
+use crate::sheets::{SHEET, WORK};
 
 #[derive(Clone, Copy, PartialEq, Eq)]
 pub enum Change {
@@ -29,14 +29,59 @@ impl Edit<'_> {
 }
 
 extern "C" {
-    fn foldplover_move(order: *const u8, order_len: usize, sheet: *mut u8, sheet_len: usize, work: *mut u8, work_len: usize) -> u32;
+    fn foldplover_move(
+        order: *const u8,
+        order_len: usize,
+        sheet: *mut u8,
+        sheet_len: usize,
+        work: *mut u8,
+        work_len: usize,
+    ) -> u32;
     fn foldplover_check(sheet: *const u8, sheet_len: usize, work: *mut u8, work_len: usize) -> u32;
-    fn foldplover_insert(sheet: *mut u8, sheet_len: usize, used: usize, list: u32, place: usize, record: *const u8, record_len: usize, work: *mut u8, work_len: usize) -> u32;
-    fn foldplover_delete(sheet: *mut u8, sheet_len: usize, used: usize, list: u32, place: usize, work: *mut u8, work_len: usize) -> u32;
-    fn foldplover_replace(sheet: *mut u8, sheet_len: usize, used: usize, list: u32, place: usize, record: *const u8, record_len: usize, work: *mut u8, work_len: usize) -> u32;
+    fn foldplover_insert(
+        sheet: *mut u8,
+        sheet_len: usize,
+        used: usize,
+        list: u32,
+        place: usize,
+        record: *const u8,
+        record_len: usize,
+        work: *mut u8,
+        work_len: usize,
+    ) -> u32;
+    fn foldplover_delete(
+        sheet: *mut u8,
+        sheet_len: usize,
+        used: usize,
+        list: u32,
+        place: usize,
+        work: *mut u8,
+        work_len: usize,
+    ) -> u32;
+    fn foldplover_replace(
+        sheet: *mut u8,
+        sheet_len: usize,
+        used: usize,
+        list: u32,
+        place: usize,
+        record: *const u8,
+        record_len: usize,
+        work: *mut u8,
+        work_len: usize,
+    ) -> u32;
     fn plain_move(order: *const u8, length: usize, sheet: *mut u8, sheet_length: usize) -> u32;
     fn plain_check(sheet: *const u8, length: usize) -> u32;
-    fn plain_edit(sheet: *mut u8, sheet_length: usize, used: usize, list: u32, place: usize, taken: usize, put: usize, record: *const u8, record_length: usize) -> u32;
+    fn plain_edit(
+        sheet: *mut u8,
+        sheet_length: usize,
+        used: usize,
+        list: u32,
+        place: usize,
+        taken: usize,
+        put: usize,
+        record: *const u8,
+        record_length: usize,
+    ) -> u32;
 }
 
 #[derive(Clone, Copy, PartialEq, Eq)]
@@ -46,7 +91,8 @@ pub enum Planner {
     SafeRust,
 }
 
-pub const PLANNERS: [(&str, Planner); 3] = [("library", Planner::Library), ("plain C", Planner::PlainC), ("safe Rust", Planner::SafeRust)];
+pub const PLANNERS: [(&str, Planner); 3] =
+    [("library", Planner::Library), ("plain C", Planner::PlainC), ("safe Rust", Planner::SafeRust)];
 
 // The buffers that the calls are lent. Only the library has a work buffer lent; the others keep their own.
 pub struct Desk {
@@ -56,13 +102,15 @@ pub struct Desk {
 
 impl Desk {
     pub fn new() -> Desk {
-        Desk { sheet: vec![0xAA; crate::sheets::SHEET], work: vec![0; WORK] }
+        Desk { sheet: vec![0xAA; SHEET], work: vec![0; WORK] }
     }
 
     pub fn move_order(&mut self, planner: Planner, order: &[u8]) -> u32 {
         let (s, w) = (&mut self.sheet, &mut self.work);
         match planner {
-            Planner::Library => unsafe { foldplover_move(order.as_ptr(), order.len(), s.as_mut_ptr(), s.len(), w.as_mut_ptr(), w.len()) },
+            Planner::Library => unsafe {
+                foldplover_move(order.as_ptr(), order.len(), s.as_mut_ptr(), s.len(), w.as_mut_ptr(), w.len())
+            },
             Planner::PlainC => unsafe { plain_move(order.as_ptr(), order.len(), s.as_mut_ptr(), s.len()) },
             Planner::SafeRust => planner::move_order(order, s),
         }
@@ -83,7 +131,19 @@ impl Desk {
             Planner::Library => self.library_edit(used, e),
             Planner::PlainC => {
                 let (s, r) = (&mut self.sheet, e.record);
-                unsafe { plain_edit(s.as_mut_ptr(), s.len(), used, e.list, e.place, e.taken(), e.puts() as usize, r.as_ptr(), r.len()) }
+                unsafe {
+                    plain_edit(
+                        s.as_mut_ptr(),
+                        s.len(),
+                        used,
+                        e.list,
+                        e.place,
+                        e.taken(),
+                        e.puts() as usize,
+                        r.as_ptr(),
+                        r.len(),
+                    )
+                }
             }
             Planner::SafeRust => planner::edit(&mut self.sheet, used, e),
         }
