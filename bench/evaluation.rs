@@ -4,7 +4,7 @@ use crate::inputs::{nested, own, rule, single_values, ALLOW, DENY};
 use crate::measure::{median, timed, Random};
 use crate::planner::cut;
 use crate::plants::plant;
-use crate::sheets::{boxes, order_of, Region, Rule, MOST, REFUSED};
+use crate::sheets::{boxes, order_of, Region, Rule, FIELDS, GATE, MOST, REFUSED};
 use crate::versions::{Desk, Planner};
 use std::hint::black_box;
 
@@ -12,6 +12,18 @@ const CALLS: usize = 51;
 const OWN_RULES: usize = 16;
 const PLANTS: usize = 400;
 const SEED: u64 = 0x9E37_79B9_7F4A_7C15;
+
+// A way to take an allow from a piece.
+type Take = fn(&Region, &Region, &mut Vec<Region>);
+
+// The cut of the paper's prose: a piece that shares no packet with the allow stays whole.
+fn cut_if_met(d: &Region, a: &Region, out: &mut Vec<Region>) {
+    if (0..FIELDS).any(|k| d.high[k] < a.low[k] || a.high[k] < d.low[k]) {
+        out.push(*d);
+    } else {
+        cut(d, a, out);
+    }
+}
 
 // What a gate's groups come to: all boxes, the most pieces that one group has after an allow, and the pieces of every group after
 // every allow added up. The count ends with the group that has too many.
@@ -22,13 +34,13 @@ struct Pieces {
     made: usize,
 }
 
-fn pieces(gate: &[Rule]) -> Pieces {
+fn pieces(gate: &[Rule], take: Take) -> Pieces {
     let mut seen = Pieces::default();
     for (i, deny) in gate.iter().enumerate().filter(|(_, r)| r.action == DENY) {
         let mut now: Vec<Region> = vec![deny.region];
         for allow in gate[..i].iter().filter(|r| r.action == ALLOW) {
             let mut next = Vec::new();
-            now.iter().for_each(|d| cut(d, &allow.region, &mut next));
+            now.iter().for_each(|d| take(d, &allow.region, &mut next));
             now = next;
             seen.most = seen.most.max(now.len());
             seen.made += now.len();
@@ -58,18 +70,27 @@ fn moved(desk: &mut Desk, gate: &[Rule], seen: &Pieces) -> (Option<u32>, f64) {
 // One line for each size of a family of lists.
 fn family(desk: &mut Desk, name: &str, gates: impl Iterator<Item = Vec<Rule>>) {
     for gate in gates {
-        let seen = pieces(&gate);
+        let seen = pieces(&gate, cut);
         let (refused, time) = moved(desk, &gate, &seen);
         let boxes = refused.map_or(seen.boxes.to_string(), |n| format!("refused {n}"));
         println!("| {name} | {} | {boxes} | {} | {} | {:.1} |", gate.len(), seen.most, seen.made, time / 1000.0);
     }
 }
 
+// The most rules nested in so many fields whose move is accepted.
+fn largest(fields: usize) -> usize {
+    let fits = |seen: Pieces| seen.most <= MOST && seen.boxes + OWN_RULES <= MOST;
+    (2..=GATE).rev().find(|n| fits(pieces(&nested(fields, *n), cut))).unwrap()
+}
+
 fn families(desk: &mut Desk) {
-    println!("| Family | gate rules | boxes | most pieces at once | pieces in all | move, us |");
+    println!("| Family | gate rules | boxes | most pieces at once | pieces in all | move, µs |");
     println!("|---|---|---|---|---|---|");
     for (name, fields) in [("nested, one field", 1), ("nested, two fields", 2), ("nested, three fields", 3)] {
-        family(desk, name, [10, 20, 40, 64].iter().map(|n| nested(fields, *n)));
+        let mut sizes = vec![10, 20, 40, 64, largest(fields)];
+        sizes.sort();
+        sizes.dedup();
+        family(desk, name, sizes.iter().map(|n| nested(fields, *n)));
     }
     let and_deny_all = |mut gate: Vec<Rule>, denies: usize| {
         gate.extend((0..denies).map(|_| rule(&[], DENY)));
@@ -95,7 +116,7 @@ fn spread(mut numbers: Vec<f64>) -> (f64, f64) {
 fn plants(desk: &mut Desk, rules: usize, last: u8) {
     let mut random = Random(SEED);
     let gates: Vec<Vec<Rule>> = (0..PLANTS).map(|_| plant(&mut random, rules, last)).collect();
-    let seen: Vec<Pieces> = gates.iter().map(|g| pieces(g)).collect();
+    let seen: Vec<Pieces> = gates.iter().map(|g| pieces(g, cut)).collect();
     let moves: Vec<(Option<u32>, f64)> = gates.iter().zip(&seen).map(|(g, s)| moved(desk, g, s)).collect();
     let refused = |n| moves.iter().filter(|m| m.0 == Some(n)).count();
     print!("| {} all | {rules} |", if last == ALLOW { "allow" } else { "deny" });
@@ -104,15 +125,17 @@ fn plants(desk: &mut Desk, rules: usize, last: u8) {
         print!(" {middle} / {worst} |");
     }
     let (middle, worst) = spread(moves.iter().map(|m| m.1 / 1000.0).collect());
-    println!(" {middle:.1} / {worst:.1} | {} | {} |", refused(6), refused(7));
+    print!(" {middle:.1} / {worst:.1} | {} | {} |", refused(6), refused(7));
+    let (middle, worst) = spread(gates.iter().map(|g| pieces(g, cut_if_met).boxes as f64).collect());
+    println!(" {middle} / {worst} |");
 }
 
 pub fn run() {
     let mut desk = Desk::new();
     families(&mut desk);
     println!();
-    println!("| Last rule | gate rules | boxes | most pieces at once | pieces in all | move, us | refused 6 | refused 7 |");
-    println!("|---|---|---|---|---|---|---|---|");
+    println!("| Last rule | gate rules | boxes | most pieces at once | pieces in all | move, µs | refused 6 | refused 7 | boxes, cut if met |");
+    println!("|---|---|---|---|---|---|---|---|---|");
     for last in [ALLOW, DENY] {
         [10, 20, 50, 64].iter().for_each(|n| plants(&mut desk, *n, last));
     }
