@@ -1,6 +1,6 @@
 // Before anything is measured: the three planners give the same answers and leave the same bytes on random plants, on edits of
-// them, and on the same with a byte changed or cut off.
-use crate::inputs::own;
+// them, on the same with a byte changed or cut off, and on two lists that get 7 and 6.
+use crate::inputs::{own, rule, single_values, DENY};
 use crate::measure::Random;
 use crate::plants::plant;
 use crate::sheets::{order_of, record_of, REFUSED};
@@ -42,6 +42,10 @@ pub fn run() {
     let mut desk = Desk::new();
     let mut answers = [0usize; 10];
     let mut note = |answer: u32| answers[answer.saturating_sub(REFUSED) as usize] += 1;
+    for (fields, each) in [(2, 31), (3, 10)] {
+        let gate = [single_values(fields, each), vec![rule(&[], DENY)]].concat();
+        note(agreed(&mut desk, |desk, planner| desk.move_order(planner, &order_of(&gate, &own(1)))));
+    }
     for _ in 0..PLANTS {
         let (rules, owns, last) = (1 + random.next(64) as usize, 1 + random.next(256) as usize, random.next(2) as u8);
         let mut order = order_of(&plant(&mut random, rules, last), &own(owns));
