@@ -1,10 +1,5 @@
 /* Two straight C versions of the lookup, for bench/run: the same answers as foldplover_lookup. */
-#include <stddef.h>
-#include <stdint.h>
-
-enum { FIELDS = 5, RECORD = 27, COUNT = 2, MOST = 1024 };
-
-static uint32_t refusal(uint32_t n) { return 65536 + n; }
+#include "wire.h"
 
 /* The count, or 0 and the refusal in *answer. */
 static size_t head(const uint8_t *list, size_t length, uint32_t *answer) {
@@ -17,10 +12,6 @@ static size_t head(const uint8_t *list, size_t length, uint32_t *answer) {
     if (length != COUNT + RECORD * count) return 0;
     return count;
 }
-
-static uint32_t four(const uint8_t *s) { return (uint32_t)s[0] << 24 | (uint32_t)s[1] << 16 | (uint32_t)s[2] << 8 | s[3]; }
-
-static uint32_t two(const uint8_t *s) { return (uint32_t)s[0] << 8 | s[1]; }
 
 /* Loops over the fields, left at the first that is outside. */
 uint32_t lookup_loops(uint32_t src, uint32_t dst, uint32_t sport, uint32_t dport, uint32_t proto, const uint8_t *list, size_t length) {

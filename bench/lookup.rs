@@ -1,12 +1,8 @@
 // Lookup in lists of 1,024 rules of which the last fits: the library, two C versions and safe Rust.
-use crate::measure::{compare, put, Random, Version};
+use crate::measure::{head, medians, row, timed, Random, Version};
+use crate::sheets::{four, put, two, FIELDS, HIGHEST, MOST as RULES, RECORD, REFUSED, WIDTH};
 use std::hint::black_box;
 
-pub const FIELDS: usize = 5;
-const WIDTH: [usize; FIELDS] = [4, 4, 2, 2, 1];
-pub const HIGHEST: [u32; FIELDS] = [u32::MAX, u32::MAX, 65535, 65535, 255];
-pub const RECORD: usize = 27;
-pub const RULES: usize = 1024;
 pub const CALLS: usize = 48;
 
 pub type Packet = [u32; FIELDS];
@@ -37,14 +33,6 @@ pub struct Rule {
     pub action: u32,
 }
 
-fn four(s: &[u8]) -> u32 {
-    u32::from_be_bytes([s[0], s[1], s[2], s[3]])
-}
-
-fn two(s: &[u8]) -> u32 {
-    u16::from_be_bytes([s[0], s[1]]) as u32
-}
-
 pub fn decode(s: &[u8; RECORD]) -> Rule {
     Rule {
         low: [four(&s[0..]), four(&s[8..]), two(&s[16..]), two(&s[20..]), s[24] as u32],
@@ -55,21 +43,20 @@ pub fn decode(s: &[u8; RECORD]) -> Rule {
 
 #[inline(never)]
 fn rust(p: &Packet, list: &[u8]) -> u32 {
-    const BASE: u32 = 65536;
     if list.len() < 2 {
-        return BASE + 3;
+        return REFUSED + 3;
     }
     let count = two(list) as usize;
     if count < 1 || count > RULES {
-        return BASE + 2;
+        return REFUSED + 2;
     }
     if list.len() != 2 + RECORD * count {
-        return BASE + 3;
+        return REFUSED + 3;
     }
     'rules: for (i, s) in list[2..].chunks_exact(RECORD).enumerate() {
         let r = decode(s.try_into().unwrap());
         if r.low.iter().zip(&r.high).any(|(l, h)| l > h) || r.action > 1 {
-            return BASE + 4;
+            return REFUSED + 4;
         }
         for k in 0..FIELDS {
             if p[k] < r.low[k] || r.high[k] < p[k] {
@@ -78,7 +65,7 @@ fn rust(p: &Packet, list: &[u8]) -> u32 {
         }
         return 2 * i as u32 + r.action;
     }
-    BASE + 5
+    REFUSED + 5
 }
 
 // A list whose rules before the last each miss the packet in the field that `miss` picks; the last is full.
@@ -112,15 +99,18 @@ pub fn kinds() -> [Kind; 4] {
     let first: fn(&mut Random) -> usize = |_| 0;
     let last: fn(&mut Random) -> usize = |_| FIELDS - 1;
     let any: fn(&mut Random) -> usize = |r| r.next(FIELDS as u64) as usize;
-    [("field 1 misses", first, 1), ("field 5 misses", last, 1), ("mixed, one list", any, 1), ("mixed, 16 lists", any, 16)]
+    [
+        ("field 1 misses", first, 1),
+        ("field 5 misses", last, 1),
+        ("mixed, one list (predictable)", any, 1),
+        ("mixed, 16 lists in turn", any, 16),
+    ]
 }
 
 pub fn run() {
-    println!();
-    println!("lookup: {RULES} rules, the last fits; {CALLS} calls at a time");
-    println!("one list is met again and again, so its branches are predictable; those of 16 mixed lists in turn are not");
-    println!("gcc makes branch-free code of the C loops: about the same time on every list");
-    let versions: [Version<fn(&Packet, &[u8]) -> u32>; 4] = [("library", library), ("C loops", c_loops), ("C straight", c_straight), ("safe Rust", rust)];
+    let versions: [Version<fn(&Packet, &[u8]) -> u32>; 4] =
+        [("library", library), ("C loops", c_loops), ("C straight", c_straight), ("safe Rust", rust)];
+    head("lookup, the last rule fits", &["rules", "bytes"], &versions);
     let p = PACKET;
     let mut random = Random(0x9E37_79B9_7F4A_7C15);
     for (what, miss, how_many) in kinds() {
@@ -129,10 +119,13 @@ pub fn run() {
             let answers: Vec<u32> = versions.iter().map(|(_, f)| f(&p, l)).collect();
             assert!(answers.iter().all(|a| *a == answers[0]) && answers[0] / 2 == RULES as u32 - 1, "{answers:?}");
         }
-        compare(what, &versions, CALLS, |f| {
-            for i in 0..CALLS {
-                black_box(f(black_box(&p), black_box(&lists[i % lists.len()])));
-            }
+        let times = medians(&versions, |f| {
+            timed(CALLS, || {
+                for i in 0..CALLS {
+                    black_box(f(black_box(&p), black_box(&lists[i % lists.len()])));
+                }
+            })
         });
+        row(what, &[RULES, lists[0].len()], &times);
     }
 }

@@ -1,15 +1,35 @@
-// The library beside plain C and safe Rust on the same input, in alternating runs of one process. Prints medians in nanoseconds
-// and, last on each line, the library's time over that of the fastest of the others.
+// The library beside plain C and safe Rust on the same input, in alternating turns of one process. Prints medians in nanoseconds a
+// call and, last on each line, the library's time over that of each of the others.
+mod agreeing;
+mod checking;
+mod editing;
+mod evaluation;
+mod inputs;
 mod lookup;
 mod measure;
 mod moving;
+mod planner;
+mod plants;
+mod reading;
+mod sheets;
 mod table;
+mod versions;
 
 fn main() {
+    if std::env::args().nth(1).as_deref() == Some("evaluation") {
+        return evaluation::run();
+    }
     let cpu = std::fs::read_to_string("/proc/cpuinfo").unwrap_or_default();
     let model = cpu.lines().find(|l| l.starts_with("model name")).and_then(|l| l.split(':').nth(1)).unwrap_or(" unknown");
-    println!("machine:{} ({}); medians of alternating rounds, ns a call", model, std::env::consts::ARCH);
+    println!("machine:{} ({}); medians of alternating turns, ns a call", model, std::env::consts::ARCH);
+    agreeing::run();
+    println!();
     lookup::run();
+    println!();
     table::run();
+    println!();
     moving::run();
+    println!();
+    checking::run();
+    editing::run();
 }

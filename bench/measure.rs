@@ -1,4 +1,4 @@
-// Versions of one thing timed in turn, and a small generator of numbers.
+// Versions of one thing timed in turn, printed as a table, and a small generator of numbers.
 use std::time::Instant;
 
 const ROUNDS: usize = 401;
@@ -16,34 +16,43 @@ impl Random {
     }
 }
 
-// The w bytes of x, the highest first.
-pub fn put(out: &mut Vec<u8>, x: u32, w: usize) {
-    out.extend_from_slice(&x.to_be_bytes()[4 - w..]);
+// Nanoseconds a call of what does so many calls.
+pub fn timed(calls: usize, run: impl FnOnce()) -> f64 {
+    let start = Instant::now();
+    run();
+    start.elapsed().as_nanos() as f64 / calls as f64
 }
 
-// One line: the median of each version in nanoseconds a call, and the first version's over the fastest of the others. `run` does
-// `calls` calls of the version that it is given.
-pub fn compare<F: Copy>(what: &str, versions: &[Version<F>], calls: usize, mut run: impl FnMut(F)) {
+pub fn median(mut times: Vec<f64>) -> f64 {
+    times.sort_by(f64::total_cmp);
+    times[times.len() / 2]
+}
+
+// The median of each version over rounds in which each has its turn; `measure` gives the nanoseconds of one turn.
+pub fn medians<F: Copy>(versions: &[Version<F>], mut measure: impl FnMut(F) -> f64) -> Vec<f64> {
     let mut times = vec![Vec::new(); versions.len()];
     for round in 0..ROUNDS {
         for turn in 0..versions.len() {
             let v = (round + turn) % versions.len();
-            let start = Instant::now();
-            run(versions[v].1);
-            times[v].push(start.elapsed().as_nanos() as f64 / calls as f64);
+            times[v].push(measure(versions[v].1));
         }
     }
-    let medians: Vec<f64> = times
-        .iter_mut()
-        .map(|t| {
-            t.sort_by(f64::total_cmp);
-            t[t.len() / 2]
-        })
-        .collect();
-    print!("  {what:<34}");
-    for ((name, _), m) in versions.iter().zip(&medians) {
-        print!("{name:>12} {m:>8.0}");
-    }
-    let best = medians[1..].iter().copied().fold(f64::MAX, f64::min);
-    println!("{:>10.2}", medians[0] / best);
+    times.into_iter().map(median).collect()
+}
+
+// The head of a table: the sizes, the versions, and the first version's time over that of each of the others.
+pub fn head<F>(what: &str, sizes: &[&str], versions: &[Version<F>]) {
+    print!("{what:<40}");
+    sizes.iter().for_each(|s| print!("{s:>7}"));
+    versions.iter().for_each(|(name, _)| print!("{name:>12}"));
+    versions[1..].iter().for_each(|(name, _)| print!("{:>13}", format!("/{name}")));
+    println!();
+}
+
+pub fn row(what: &str, sizes: &[usize], medians: &[f64]) {
+    print!("  {what:<38}");
+    sizes.iter().for_each(|s| print!("{s:>7}"));
+    medians.iter().for_each(|m| print!("{m:>12.0}"));
+    medians[1..].iter().for_each(|m| print!("{:>13.2}", medians[0] / m));
+    println!();
 }

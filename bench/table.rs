@@ -1,11 +1,14 @@
 // Lookup in tables of 1,024 rules in memory, the rules that bench/lookup.rs has as bytes: the library beside two C versions over the
 // same structs, then beside safe Rust over them and its own lookup over the bytes.
-use crate::lookup::{decode, kinds, list, Packet, Rule, CALLS, FIELDS, HIGHEST, PACKET, RECORD, RULES};
-use crate::measure::{compare, Random, Version};
+use crate::lookup::{decode, kinds, list, Packet, Rule, CALLS, PACKET};
+use crate::measure::{head, medians, row, timed, Random, Version};
+use crate::sheets::{FIELDS, HIGHEST, MOST as RULES, RECORD};
 use std::hint::black_box;
+use std::mem::size_of;
 
 extern "C" {
-    fn foldplover_lookup_table(src: u32, dst: u32, sport: u32, dport: u32, proto: u32, rules: *const Rule, count: usize) -> u32;
+    fn foldplover_lookup_table(src: u32, dst: u32, sport: u32, dport: u32, proto: u32, rules: *const Rule, count: usize)
+        -> u32;
     fn table_loops(src: u32, dst: u32, sport: u32, dport: u32, proto: u32, rules: *const Rule, count: usize) -> u32;
     fn table_straight(src: u32, dst: u32, sport: u32, dport: u32, proto: u32, rules: *const Rule, count: usize) -> u32;
 }
@@ -61,24 +64,23 @@ fn both(bytes: Vec<u8>) -> Both {
 }
 
 pub fn run() {
-    println!();
-    println!("lookup in a table in memory: {RULES} rules, the last fits; {CALLS} calls at a time");
-    println!("gcc makes branch-free code of both C versions; the library counts the fields that miss, without a branch too");
-    let in_c: [Version<fn(&Packet, &Both) -> u32>; 3] = [("library", library), ("C loops", c_loops), ("C straight", c_straight)];
-    let others: [Version<fn(&Packet, &Both) -> u32>; 3] = [("library", library), ("safe Rust", rust), ("bytes", bytes)];
+    let versions: [Version<fn(&Packet, &Both) -> u32>; 5] =
+        [("library", library), ("C loops", c_loops), ("C straight", c_straight), ("safe Rust", rust), ("its bytes", bytes)];
+    head("lookup in a table, the last rule fits", &["rules", "bytes"], &versions);
     let mut random = Random(0x9E37_79B9_7F4A_7C15);
     for (what, miss, how_many) in kinds() {
         let tables: Vec<Both> = (0..how_many).map(|_| both(list(&mut random, &PACKET, miss))).collect();
         for t in &tables {
-            let answers: Vec<u32> = in_c.iter().chain(&others).map(|(_, f)| f(&PACKET, t)).collect();
+            let answers: Vec<u32> = versions.iter().map(|(_, f)| f(&PACKET, t)).collect();
             assert!(answers.iter().all(|a| *a == answers[0]) && answers[0] / 2 == RULES as u32 - 1, "{answers:?}");
         }
-        let mut call = |f: fn(&Packet, &Both) -> u32| {
-            for i in 0..CALLS {
-                black_box(f(black_box(&PACKET), black_box(&tables[i % tables.len()])));
-            }
-        };
-        compare(what, &in_c, CALLS, &mut call);
-        compare("", &others, CALLS, &mut call);
+        let times = medians(&versions, |f| {
+            timed(CALLS, || {
+                for i in 0..CALLS {
+                    black_box(f(black_box(&PACKET), black_box(&tables[i % tables.len()])));
+                }
+            })
+        });
+        row(what, &[RULES, RULES * size_of::<Rule>()], &times);
     }
 }
