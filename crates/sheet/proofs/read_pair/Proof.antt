@@ -28,8 +28,7 @@ count-at-requires c κs = search needs
 
 returns-2 : tie.Need-returns-2
 returns-2 c =
-    let p = c in
-    groups-differ (p .before .before .before .before .before .before .before .read-lists .ensures) _ _ _ _ (p .before .before .before .before .before .gate .given .1) (p .before .before .before .if1 .left) _ (p .before .before .count-denies .ensures) _ (p .before .count-at .ensures .0) (λ q. omega arith)
+    groups-differ (c .before .before .before .before .before .before .before .read-lists .ensures) _ _ _ _ (c .before .before .before .before .before .gate .given .1) (c .before .before .before .if1 .left) _ (c .before .before .count-denies .ensures) _ (c .before .count-at .ensures .0) (λ q. omega arith)
 
 add-from : tie.Need-add-from
 add-from c = search needs
