@@ -41,10 +41,16 @@ add-result-2 : tie.Need-add-result-2
 add-result-2 c = search needs
 
 returns : tie.Need-returns
-returns c = search (needs, decided-number)
+returns c =
+    let k = c .before .before .before .lookup in
+    let a = c .before .before .before .before .before .args in
+    decided-number (limits .total) (packetOf (a .p)) (a .list .now) (k .result) (k .ensures) _ _ (c .before .place .given .1)
 
 returns-2 : tie.Need-returns-2
-returns-2 c = search (needs, refused-number)
+returns-2 c =
+    let k = c .before .before .before .before .lookup in
+    let a = c .before .before .before .before .before .before .args in
+    refused-number (limits .total) (packetOf (a .p)) (a .list .now) (k .result) (k .ensures) _ _ (c .before .before .f .given .1) (c .number-of .ensures .0)
 
 pub lookup-number-spec : {M : Type 1} → statement M
 lookup-number-spec =

@@ -1,6 +1,7 @@
 -- `lookup_within` meets its contract, return by return. Assumes nothing.
 use borrow.Author.Needs.{needs}
 use mathlib.Core.Path.{_∙_}
+use Prim.Native.Nat.{_<_, _≤_}
 use native.Mathlib.Omega.{arith}
 use Rattle.filter.proofs.Lookups.{no-count, no-rules, too-many, wrong-length, good-head}
 use Rattle.filter.proofs.lookup_within.Statement.{statement}
@@ -16,7 +17,7 @@ returns-2 : tie.Need-returns-2
 returns-2 c = search (needs, no-rules)
 
 returns-3 : tie.Need-returns-3
-returns-3 c = search (needs, too-many)
+returns-3 c = let many : c .before .before .before .before .before .args .most < c .before .before .count-at .result = omega arith in search (needs, too-many)
 
 mul-if4 : tie.Need-mul-if4
 mul-if4 c = search needs
@@ -25,7 +26,7 @@ add-if4 : tie.Need-add-if4
 add-if4 c = search needs
 
 returns-4 : tie.Need-returns-4
-returns-4 c = search (needs, wrong-length)
+returns-4 c = let few : c .before .before .before .count-at .result ≤ c .before .before .before .before .before .before .args .most = omega arith in search (needs, wrong-length)
 
 scan-requires : tie.Need-scan-requires
 scan-requires c κs = search needs

@@ -8,7 +8,7 @@ use Rattle.groups.proofs.store_low.Statement.{statement}
 use Rattle.groups.proofs.store_low.Tie as tie
 
 low-part-requires : tie.Need-low-part-requires
-low-part-requires c κs = search needs
+low-part-requires c κs = (omega arith, omega arith)
 
 store-box-requires : tie.Need-store-box-requires
 store-box-requires c κs = search needs

@@ -76,7 +76,7 @@ loop-again c =
     let t = c .before .before .before .loop-test .taken in
     let e = c .before .before .rule-at .ensures in
     ⊎-elim
-    (λ w. rw (w .6, w .7) (working-next (s .inv) t e (w .0 .taken) (w .2 .ensures) (w .5 .left) (proper-at (x .args .i + 1) (x .args .rules .now) (s .j) (x .pre .2) (omega arith) e) (w .2 .kept .0)))
+    (λ w. rw (w .6, w .7) (working-next (s .inv) t e (w .0 .taken) (w .2 .ensures) (omega (arith, w .5 .left)) (proper-at (x .args .i + 1) (x .args .rules .now) (s .j) (x .pre .2) (omega arith) e) (w .2 .kept .0)))
     (λ w. rw (w .1, w .2) (working-deny (s .inv) t e (w .0 .left)))
     (c .if1 .came)
 

@@ -41,13 +41,19 @@ add-t16 c =
     omega arith
 
 returns : tie.Need-returns
-returns c = search (needs, gate-fault)
+returns c =
+    let k = c .before .before .before .read-section in
+    gate-fault {s = c .before .before .before .before .before .args .s .now} {r = k .result} (k .ensures) _ (c .before .f .given .1)
 
 returns-2 : tie.Need-returns-2
-returns-2 c = search (needs, own-fault)
+returns-2 c =
+    let k = c .before .before .before .before .before .before .before .before .read-section in
+    own-fault {s = c .before .before .before .before .before .before .before .before .before .before .args .s .now} {r = k .result} (k .ensures) _ _ (c .before .before .before .before .before .before .gate .given .1) (c .before .before .before .read-section2 .ensures) _ (c .before .f2 .given .1)
 
 returns-3 : tie.Need-returns-3
-returns-3 c = search (needs, lists-read)
+returns-3 c =
+    let k = c .before .before .before .before .before .before .before .before .read-section in
+    lists-read {s = c .before .before .before .before .before .before .before .before .before .before .args .s .now} {r = k .result} (k .ensures) _ _ (c .before .before .before .before .before .before .gate .given .1) (c .before .before .before .read-section2 .ensures) _ _ (c .before .own .given .1)
 
 pub read-lists-spec : {M : Type 1} → statement M
 read-lists-spec =

@@ -1,5 +1,6 @@
 -- `read_pair` answers at each of its tests what the definition gives there. Assumes nothing.
 use borrow.Author.Needs.{needs}
+use native.Mathlib.Omega.{arith}
 use Rattle.sheet.proofs.PairReader.{pair-fault, third-inside, gate-inside, own-within, no-group-count, groups-differ, third-fault, pair-over, pair-read}
 use Rattle.sheet.proofs.read_pair.Statement.{statement}
 use Rattle.sheet.proofs.read_pair.Tie as tie
@@ -26,7 +27,8 @@ count-at-requires : tie.Need-count-at-requires
 count-at-requires c κs = search needs
 
 returns-2 : tie.Need-returns-2
-returns-2 c = search (needs, groups-differ)
+returns-2 c =
+    groups-differ (c .before .before .before .before .before .before .before .read-lists .ensures) _ _ _ _ (c .before .before .before .before .before .gate .given .1) (c .before .before .before .if1 .left) _ (c .before .before .count-denies .ensures) _ (c .before .count-at .ensures .0) (λ q. omega arith)
 
 add-from : tie.Need-add-from
 add-from c = search needs
@@ -53,16 +55,25 @@ sub-if3 : tie.Need-sub-if3
 sub-if3 c = search needs
 
 returns-3 : tie.Need-returns-3
-returns-3 c = search (needs, pair-over)
+returns-3 c =
+    let p = c .before .before .before .before .before .before in
+    let g = c .before .before .before .before .read-groups in
+    pair-over (p .before .before .before .before .before .before .before .read-lists .ensures) _ _ _ _ (p .before .before .before .before .before .gate .given .1) (p .before .before .before .if1 .left) _ (p .before .before .count-denies .ensures) _ (p .before .count-at .ensures .0) (omega arith) {t = g .result} (g .ensures) _ _ (c .before .before .boxes .given .1) (c .if3 .taken)
 
 returns-4 : tie.Need-returns-4
 returns-4 c = search (needs, pair-fault)
 
 returns-5 : tie.Need-returns-5
-returns-5 c = search (needs, third-fault)
+returns-5 c =
+    let p = c .before .before .before .before .before in
+    let g = c .before .before .before .read-groups in
+    third-fault (p .before .before .before .before .before .before .before .read-lists .ensures) _ _ _ _ (p .before .before .before .before .before .gate .given .1) (p .before .before .before .if1 .left) _ (p .before .before .count-denies .ensures) _ (p .before .count-at .ensures .0) (omega arith) {t = g .result} (g .ensures) _ (c .before .f2 .given .1)
 
 returns-6 : tie.Need-returns-6
-returns-6 c = search (needs, pair-read)
+returns-6 c =
+    let p = c .before .before .before .before .before .before in
+    let g = c .before .before .before .before .read-groups in
+    pair-read (p .before .before .before .before .before .before .before .read-lists .ensures) _ _ _ _ (p .before .before .before .before .before .gate .given .1) (p .before .before .before .if1 .left) _ (p .before .before .count-denies .ensures) _ (p .before .count-at .ensures .0) (omega arith) {t = g .result} (g .ensures) _ _ (c .before .before .boxes .given .1) (c .if3 .left)
 
 pub read-pair-spec : {M : Type 1} → statement M
 read-pair-spec =

@@ -35,7 +35,7 @@ part-fill-end : tie.Need-part-fill-end
 part-fill-end c = search needs
 
 fill-requires-2 : tie.Need-fill-requires-2
-fill-requires-2 c κs = search (needs, own-fits)
+fill-requires-2 c κs = (own-fits (c .before .before .before .before .before .before .before .before .before .before .read-order .ensures) _ _ _ (c .before .before .before .before .before .before .before .before .middle .given .1), search needs)
 
 returns-3 : tie.Need-returns-3
 returns-3 c = search (needs, split-fault)
@@ -47,7 +47,9 @@ same-length-2 : tie.Need-same-length-2
 same-length-2 c = search needs
 
 returns-4 : tie.Need-returns-4
-returns-4 c = search (needs, split-done)
+returns-4 c =
+    let a = c .before .before .before .before .before .before .before .before .before .before .before .before .before .before .before .before .before .before .before .args in
+    split-done (a .sheet .now) (a .a .now) (a .b .now) (c .before .before .before .before .before .before .before .before .before .before .before .before .before .before .before .if1 .left) (c .before .before .before .before .before .before .before .before .before .before .before .before .before .before .if2 .left) (c .before .before .before .before .before .before .before .before .before .before .before .before .before .read-order .ensures) (c .before .before .before .before .before .before .before .before .before .before .before .before .before .before .before .before .before .before .shared-slice-known .given) _ _ _ (c .before .before .before .before .before .before .before .before .before .before .before .middle .given .1) (c .before .before .before .before .before .before .before .fill .ensures) (c .before .before .fill2 .ensures)
 
 pub split-spec : {M : Type 1} → statement M
 split-spec =

@@ -1,6 +1,7 @@
 -- `put_two` meets its contract: the bytes are stored one by one. Assumes nothing.
 use borrow.Author.Needs.{needs}
 use lib.ListN.{length-set}
+use mathlib.Core.Path.{refl}
 use native.Mathlib.Omega.{arith}
 use native.Mathlib.Numerals.{towards-suc}
 use Rattle.wire.specs.Numbers.{numberBytes}
@@ -27,7 +28,7 @@ same-length c = search needs
 
 returns : tie.Need-returns
 unfolding numberBytes
-returns c = simp towards-suc
+returns c = simp towards-suc refl
 
 pub put-two-spec : {M : Type 1} → statement M
 put-two-spec =

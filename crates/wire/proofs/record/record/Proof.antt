@@ -26,7 +26,9 @@ same-length : tie.Need-same-length
 same-length c = search needs
 
 returns-4 : tie.Need-returns-4
-returns-4 c = search (needs, record-written)
+returns-4 c =
+    let a = c .before .before .before .before .before .before .before .before .before .before .before .args in
+    record-written (a .numbers .now) (a .bytes .now) (c .before .before .before .before .before .before .before .before .if1 .left) (c .before .before .before .before .before .before .before .if2 .left) _ (c .before .before .before .before .before .before .rule-of .ensures) _ (c .before .before .before .before .before .is-sound .ensures) (c .before .before .before .before .if3 .left) _ (c .before .before .put-rule .ensures)
 
 pub record-spec : {M : Type 1} → statement M
 record-spec =

@@ -23,7 +23,9 @@ is-sound-requires : tie.Need-is-sound-requires
 is-sound-requires c κs = search needs
 
 returns-3 : tie.Need-returns-3
-returns-3 c = search (needs, bad-record)
+returns-3 c =
+    let long : length (c .before .before .before .before .before .before .before .args .bytes .now) ≡ recordSize = omega arith in
+    search (needs, bad-record)
 
 put-numbers-requires : tie.Need-put-numbers-requires
 put-numbers-requires c κs = search needs
@@ -32,7 +34,9 @@ same-length : tie.Need-same-length
 same-length c = search needs
 
 returns-4 : tie.Need-returns-4
-returns-4 c = search (needs, record-read)
+returns-4 c =
+    let long : length (c .before .before .before .before .before .before .before .before .before .before .before .args .bytes .now) ≡ recordSize = omega arith in
+    search (needs, record-read)
 
 pub rule-spec : {M : Type 1} → statement M
 rule-spec =
