@@ -17,6 +17,7 @@ use Rattle.policy.specs.Refusals.{Outcome, accepted, refused, andThen, unless, 
 use Rattle.policy.specs.Move.{slotsOf, room, Order, Pair, moved, gateList, cellList, listRefusal, moveRefusal}
 use Rattle.policy.specs.Check.{checkRefusal}
 use Rattle.policy.specs.Edit.{Kind, out, put, changed, hasPlace, Edit, newOrder, placeFound, edited, changeRefusal, allDone}
+use Rattle.policy.proofs.Answers.{test-accepted, unless-accepted}
 use Rattle.policy.proofs.Numbers.{orElse-both, orElse-assoc}
 use Rattle.policy.proofs.Edits.{Accepted, move-accepted, edit-as-fresh, change-refuses-as-fresh}
 use Rattle.policy.specs.Demands.{DenyOnly}
@@ -34,15 +35,10 @@ use Rattle.sheet.proofs.Orders.{ListFits, faultless-fits, order-back, order-fau
 use Rattle.sheet.proofs.Pairs.{pair-back, pair-good}
 use Rattle.planner.specs.Calls.{planOf, moveOf, checkedOf, checkOf, written}
 use Rattle.planner.specs.Edits.{Asked, kindOf, editOf, wholeRecord, changeOf, editedOf}
-use Rattle.planner.specs.Demands.{DemandTwo, Held, held, after, edits, runCalls, ifTaken, taken, DemandThree, EditAsFresh, OthersAsBefore}
+use Rattle.planner.specs.Demands.{DemandTwo, Small, Held, held, after, edits, runCalls, ifTaken, taken, DemandThree, EditAsFresh, OthersAsBefore}
 use Rattle.planner.specs.declared.Change.{Change}
 use Rattle.planner.specs.declared.Change.the-variants.{Insert, Delete, Replace}
 use Rattle.planner.proofs.Good.{moved-good, pair-short, gate-list-good, cell-list-good}
-use Rattle.policy.proofs.Answers.{test-accepted}
-
-unless-is : {A : Type 0} (n : ℕ) (a v : A) → unless n a ≡ accepted v → (n ≡ 0) × (a ≡ v)
-unless-is zero a v e = (refl, cc)
-unless-is (suc n) a v e = let z : _≡_ {A = ℕ} 0 1 = cc in absurd (omega arith)
 
 unless-none : {A : Type 0} (n : ℕ) (a : A) → n ≡ 0 → unless n a ≡ accepted a
 unless-none n a e = rw e
@@ -68,14 +64,6 @@ changed-fits i c s l w b f n =
       count = rw (length-append, length-append, length-take, length-drop, length-drop) (omega arith);
     }
 
--- The limits' counts fit in two bytes, also with one rule more; an own rule at least fits the total.
-pub record Small (lim : Limits) : Type 0 where
-  pub gate : lim .gate < 65535
-  pub own : lim .own < 65535
-  pub total : lim .total < 65536
-  pub one : 1 ≤ lim .total
-  pub share : lim .own ≤ lim .total
-
 module _ (lim : Limits) (small : Small lim) where
   -- a move of the bytes of lists that fit them answers as the move of the lists
   move-back : (o : Order) → ListFits (o .gate) → ListFits (o .own) → moveOf lim (orderBytes o) ≡ unless (moveRefusal lim o) (moved o)
@@ -99,18 +87,18 @@ module _ (lim : Limits) (small : Small lim) where
   sheet-short o h = pair-short lim (moved o) (omega (arith, small .gate)) (omega (arith, small .own)) (moved-good lim o h) (small .share)
 
   -- what an accepted move of bytes is
-  record Read (s : List ℕ) (p : Pair) : Type 0 where
+  pub record Read (s : List ℕ) (p : Pair) : Type 0 where
     pub order : Order
     pub reads : orderIn lim s ≡ accepted order
     pub none : moveRefusal lim order ≡ 0
     pub pair : p ≡ moved order
 
-  move-read : (s : List ℕ) (p : Pair) → moveOf lim s ≡ accepted p → Read s p
+  pub move-read : (s : List ℕ) (p : Pair) → moveOf lim s ≡ accepted p → Read s p
   unfolding moveOf planOf moveRefusal
   move-read s p e =
       let a = through (orderIn lim s) _ p e in
       let o = a .value in
-      let u = unless-is (room lim o (slotsOf o)) (moved o) p (a .then) in
+      let u = unless-accepted (room lim o (slotsOf o)) (a .then) in
       let f = order-faultless lim s o (a .first) in
       record {
         order = o;
@@ -164,7 +152,7 @@ module _ (lim : Limits) (small : Small lim) where
   change-accepted a o p h e =
       let f = test-accepted (leb (a .list) 1 && placeFound (editOf a) o) 9 _ e in
       let g = test-accepted (wholeRecord (a .change) (a .bytes)) 3 _ (f .1) in
-      let u = unless-is (changeRefusal lim (editOf a) (moved o)) (edited (editOf a) (moved o)) p (g .1) in
+      let u = unless-accepted (changeRefusal lim (editOf a) (moved o)) (g .1) in
       (sym (change-refuses-as-fresh lim (editOf a) o h) ∙ u .0, sym (u .1) ∙ edit-as-fresh (editOf a) o)
 
   -- Demand 3, a run: what is left of it leads from any accepted move to the accepted move of the edited lists.
@@ -224,7 +212,7 @@ module _ (lim : Limits) (small : Small lim) where
       let i : eqb (a .list) 0 ≡ true = eq-eqb (a .list) 0 g in
       let f = test-accepted (leb (a .list) 1 && placeFound (editOf a) (p .order)) 9 _ (rw r at e) in
       let w = test-accepted (wholeRecord (a .change) (a .bytes)) 3 _ (f .1) in
-      let u = unless-is (changeRefusal lim (editOf a) p) (edited (editOf a) p) q (w .1) in
+      let u = unless-accepted (changeRefusal lim (editOf a) p) (w .1) in
       let h = and-true (leb (a .list) 1) (placeFound (editOf a) (p .order)) (f .0) in
       record {
         pair = sym (u .1) ∙ ap (λ (t : Bool). edited (record { inGate = t; place = a .place; kind = k }) p) i;
