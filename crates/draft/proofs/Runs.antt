@@ -13,7 +13,6 @@ use Rattle.policy.specs.Ranges.{Region}
 use Rattle.policy.specs.Move.{together}
 use Rattle.policy.proofs.Edits.{kept-boxes, kept-over, together-append}
 use Rattle.wire.proofs.Records.{boxesIn-length}
-use Rattle.sheet.specs.Sections.{countIn}
 use Rattle.sheet.specs.Pairs.{groupSize, groupBoxes, groupsBytes}
 use Rattle.sheet.specs.Readers.{groupsFrom}
 use Rattle.sheet.proofs.Pairs.{ProperGroup}
@@ -22,6 +21,7 @@ use Rattle.draft.specs.declared.Drafted.the-variants.{Groups}
 use Rattle.draft.proofs.Drafts.{groupsBytes-append}
 use Rattle.draft.proofs.Laid.{groups-length}
 use Rattle.draft.specs.Arounds.{boxesBefore, runSize, GroupsHeld, keptSlots}
+use Rattle.wire.specs.Lists.{countIn}
 
 boxes-cons : (n : ℕ) (s : List ℕ) → boxesBefore (suc n) s ≡ countIn s + boxesBefore n (drop (groupSize (countIn s)) s)
 unfolding groupsFrom together

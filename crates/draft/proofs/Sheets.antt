@@ -13,9 +13,9 @@ use Rattle.wire.specs.Numbers.{numberBytes, Byte}
 use Rattle.wire.specs.Buffers.{zeroed, filled}
 use Rattle.wire.proofs.Buffers.{filled-is}
 use Rattle.wire.proofs.Numbers.{numberBytes-length, bytes-back, bytes-take, bytes-drop}
-use Rattle.sheet.specs.Sections.{countIn}
 use Rattle.sheet.specs.Pairs.{groupSize}
 use Rattle.draft.specs.Sheets.{Laid, sheetOf}
+use Rattle.wire.specs.Lists.{countIn}
 
 -- the count at the front, and the boxes copied behind it
 pub group-put : (out c y boxes : List ℕ) (n : ℕ) → c ≡ sets out 0 (numberBytes countSize n)

@@ -5,8 +5,8 @@ use mathlib.Core.Path.{_≡_}
 use lib.ListN.{length, drop}
 use Rattle.policy.specs.Fields.{countSize}
 use Rattle.wire.specs.Numbers.{numberBytes}
-use Rattle.sheet.specs.Sections.{countIn}
 use Rattle.sheet.specs.Pairs.{groupSize}
+use Rattle.wire.specs.Lists.{countIn}
 
 -- So many groups lie one behind another in these bytes, and nothing else does.
 unfoldable pub Laid : ℕ → List ℕ → Type 0

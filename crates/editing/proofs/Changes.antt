@@ -19,10 +19,9 @@ use Rattle.policy.specs.declared.Refusal.the-variants.{NoPlace, LengthWrong}
 use Rattle.wire.specs.Numbers.{Byte}
 use Rattle.wire.specs.Records.{recordBytes, recordsBytes, ruleIn}
 use Rattle.wire.proofs.Records.{RuleFits, rulesIn-length, record-written-back}
-use Rattle.sheet.specs.Sections.{sectionBytes, sectionSize}
 use Rattle.sheet.specs.Orders.{orderBytes, orderSize}
 use Rattle.sheet.specs.Readers.{rulesOf, listsOf}
-use Rattle.sheet.proofs.Sections.{sectionBytes-length}
+use Rattle.sheet.proofs.Sections.{listBytes-length}
 use Rattle.sheet.proofs.Outcomes.{faultless}
 use Rattle.sheet.proofs.Orders.{faultless-fits}
 use Rattle.planner.specs.Calls.{lengthOf}
@@ -31,6 +30,7 @@ use Rattle.planner.specs.declared.Change.{Change}
 use Rattle.planner.specs.declared.Change.the-variants.{Insert, Delete, Replace}
 use Rattle.editing.specs.Orders.{asked, takenBy, putBy, spliced, newOrderOf, overlaid, OrderChanged, ListsHeld}
 use Rattle.editing.proofs.Splices.{section-spliced}
+use Rattle.wire.specs.Lists.{listBytes, listSize}
 
 -- what a change takes out and puts in
 pub taken-is : (c : Change) (s : List ℕ) → out (kindOf c s) ≡ takenBy c
@@ -118,19 +118,19 @@ module _ {s : List ℕ} {n m middle third : ℕ} (held : ListsHeld s n m middle 
   own-fits : Each RuleFits (lists .own)
   own-fits = faultless-fits (limits .own) (lists .own) (omega arith) (held .own) .rules
 
-  gate-long : length (sectionBytes (lists .gate)) ≡ middle
-  gate-long = sectionBytes-length (lists .gate) gate-fits ∙ ap (λ (k : ℕ). sectionSize k) (target-length true) ∙ sym (held .place .gateEnd)
+  gate-long : length (listBytes (lists .gate)) ≡ middle
+  gate-long = listBytes-length (lists .gate) gate-fits ∙ ap (λ (k : ℕ). listSize k) (target-length true) ∙ sym (held .place .gateEnd)
 
   order-spliced : (b : Bool) (i : ℕ) (k : Kind) (new : List ℕ) (start count : ℕ) → start ≡ cond b 0 middle
       → i + out k ≤ length (cond b (lists .gate) (lists .own)) → new ≡ recordsBytes (put k) → count ≡ length (changed i k (cond b (lists .gate) (lists .own)))
       → spliced (take third s) start count i (out k) new ≡ orderBytes (newOrder (record { inGate = b; place = i; kind = k }) lists)
   unfolding orderBytes
   order-spliced true i k new start count es h en ec =
-      section-spliced [] (sectionBytes (lists .own)) new (lists .gate) i k (take third s) start count gate-fits h (sym (held .bytes)) (sym es) en ec
+      section-spliced [] (listBytes (lists .own)) new (lists .gate) i k (take third s) start count gate-fits h (sym (held .bytes)) (sym es) en ec
   order-spliced false i k new start count es h en ec =
-      section-spliced (sectionBytes (lists .gate)) [] new (lists .own) i k (take third s) start count own-fits h
-      (sym (held .bytes) ∙ ap (λ (t : List ℕ). sectionBytes (lists .gate) ++ t) (sym (append-none (sectionBytes (lists .own))))) (gate-long ∙ sym es) en ec
-      ∙ ap (λ (t : List ℕ). sectionBytes (lists .gate) ++ t) (append-none (sectionBytes (changed i k (lists .own))))
+      section-spliced (listBytes (lists .gate)) [] new (lists .own) i k (take third s) start count own-fits h
+      (sym (held .bytes) ∙ ap (λ (t : List ℕ). listBytes (lists .gate) ++ t) (sym (append-none (listBytes (lists .own))))) (gate-long ∙ sym es) en ec
+      ∙ ap (λ (t : List ℕ). listBytes (lists .gate) ++ t) (append-none (listBytes (changed i k (lists .own))))
 
   pub edit-spliced : (list place : ℕ) (change : Change) (new : List ℕ) (start count taken put : ℕ) → taken ≡ takenBy change → put ≡ putBy change
       → start ≡ cond (eqb list 0) 0 middle → count ≡ cond (eqb list 0) n m → taken ≤ count → place ≤ count - taken → wholeRecord change new ≡ true → Each Byte new
@@ -146,7 +146,7 @@ module _ {s : List ℕ} {n m middle third : ℕ} (held : ListsHeld s n m middle 
       rw (e, ep) (order-spliced (eqb list 0) place k (take (recordSize * putBy change) new) start (count - out k + putBy change) es h (put-bytes-are change new w b) (omega arith))
 
   -- the section lies within the lists, and they within an order sheet
-  pub section-there : (b : Bool) (start count : ℕ) → start ≡ cond b 0 middle → count ≡ cond b n m → start + sectionSize count ≤ third
+  pub section-there : (b : Bool) (start count : ℕ) → start ≡ cond b 0 middle → count ≡ cond b n m → start + listSize count ≤ third
   section-there true start count es ec = omega (arith, held .place .gateEnd, held .place .ownEnd)
   section-there false start count es ec = omega (arith, held .place .gateEnd, held .place .ownEnd)
 

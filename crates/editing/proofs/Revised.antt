@@ -26,12 +26,11 @@ use Rattle.policy.proofs.Edits.{list-accepted, changed-faults, chain-gate, chai
 use Rattle.wire.specs.Numbers.{Byte}
 use Rattle.wire.proofs.Records.{rulesIn-length}
 use Rattle.groups.specs.Worked.{workSize}
-use Rattle.sheet.specs.Sections.{sectionSize}
 use Rattle.sheet.specs.Orders.{orderIn, orderBytes, orderSize}
 use Rattle.sheet.specs.Pairs.{pairIn, pairBytes, pairSize}
 use Rattle.sheet.specs.Readers.{rulesOf, listsOf, OrderRead, pairOf}
 use Rattle.sheet.specs.declared.OrderParts.the-variants.{Parts}
-use Rattle.sheet.proofs.Sections.{sectionBytes-length}
+use Rattle.sheet.proofs.Sections.{listBytes-length}
 use Rattle.sheet.proofs.Orders.{ListFits, faultless-fits, order-back}
 use Rattle.sheet.proofs.Accepted.{PairAccepted, OrderAccepted}
 use Rattle.draft.specs.Drafts.{draftSize}
@@ -49,6 +48,7 @@ use Rattle.editing.proofs.Changes.{taken-is, put-is, changed-length}
 use Rattle.draft.proofs.Runs.{run-length}
 use Rattle.editing.proofs.Slots.{around-length, own-slots, own-placed, gate-slots, gate-placed}
 use Rattle.draft.specs.Arounds.{runSize, GroupsHeld, slotsAround, Placed}
+use Rattle.wire.specs.Lists.{listSize}
 
 -- the tests of 9 and 3, whatever comes behind them
 both-refuse : {A B : Type 0} (b c : Bool) (x : Outcome A) (bytes : B → List ℕ) (y : B) (n : ℕ)
@@ -108,11 +108,11 @@ pub pair-faulty : (s : List ℕ) (q : Asked) (k : ℕ) → pairIn limits s ≡ r
 unfolding editedOf
 pair-faulty s q k e = rw e
 
-pub order-inside : {t : List ℕ} {n m middle : ℕ} → OrderAccepted t n m middle → sectionSize n ≤ length t
+pub order-inside : {t : List ℕ} {n m middle : ℕ} → OrderAccepted t n m middle → listSize n ≤ length t
 order-inside b = omega (arith, b .place .gateEnd, b .place .ownEnd)
 
 module _ {s : List ℕ} {n m middle third boxes : ℕ} (a : PairAccepted s n m middle third boxes) where
-  pub gate-inside : sectionSize n ≤ length s
+  pub gate-inside : listSize n ≤ length s
   gate-inside = omega (arith, a .place .lists .gateEnd, a .place .lists .ownEnd, a .place .lists .inside)
 
   abbrev p : Pair
@@ -171,8 +171,8 @@ module _ {s : List ℕ} {n m middle third boxes : ℕ} (a : PairAccepted s n m m
       new-short : length (orderBytes new) ≤ orderSize limits + recordSize
       unfolding orderBytes
       new-short =
-          let g = sectionBytes-length (new .gate) (new-fits .0 .rules) in
-          let w = sectionBytes-length (new .own) (new-fits .1 .rules) in
+          let g = listBytes-length (new .gate) (new-fits .0 .rules) in
+          let w = listBytes-length (new .own) (new-fits .1 .rules) in
           rw length-append (omega (arith, go (eqb (q .list) 0) found))
         where
           go : (b : Bool) → q .place + out (kindOf (q .change) (q .bytes)) ≤ length (cond b (o .gate) (o .own))
@@ -266,16 +266,16 @@ module _ {s : List ℕ} {n m middle third boxes : ℕ} (a : PairAccepted s n m m
                   length-map (p .groups) kept ∙ a .good .counted ∙ ap denies (sym e),
                 )
 
-        middle-is : middle′ ≡ sectionSize n′
+        middle-is : middle′ ≡ listSize n′
         middle-is = b .place .gateEnd
 
-        revised-slotted : editedOf limits s q ≡ slotted (listsOf n′ m′ (sectionSize n′) t) (slotsAround v (drop (third + countSize) s) (drop countSize t))
+        revised-slotted : editedOf limits s q ≡ slotted (listsOf n′ m′ (listSize n′) t) (slotsAround v (drop (third + countSize) s) (drop countSize t))
         unfolding slotted
         revised-slotted =
             let e = clean in
             let first : editedOf limits s q ≡ slotted new (newSlots (editOf q) p) = revised-is ∙ rw (e .0) in
-            let second : new ≡ listsOf n′ m′ (sectionSize n′) t = e .1 ∙ ap (λ (k : ℕ). listsOf n′ m′ k t) middle-is in
-            first ∙ ap (λ (x : Order). slotted x (newSlots (editOf q) p)) second ∙ ap (λ (x : List Slot). slotted (listsOf n′ m′ (sectionSize n′) t) x) (sym (right .0))
+            let second : new ≡ listsOf n′ m′ (listSize n′) t = e .1 ∙ ap (λ (k : ℕ). listsOf n′ m′ k t) middle-is in
+            first ∙ ap (λ (x : Order). slotted x (newSlots (editOf q) p)) second ∙ ap (λ (x : List Slot). slotted (listsOf n′ m′ (listSize n′) t) x) (sym (right .0))
 
         module _ (sheet : List ℕ) (used : ℕ) (is : s ≡ take used sheet) (inside : used ≤ length sheet) (v′ : Around) (same : v′ ≡ v) where
           start-inside : third + countSize ≤ used
@@ -309,9 +309,9 @@ module _ {s : List ℕ} {n m middle third boxes : ℕ} (a : PairAccepted s n m m
               })
 
           pub revised-done : {w w′ sheet′ : List ℕ} {r : Answer}
-              → Writes pairBytes (pairSize limits) (slotted (listsOf n′ m′ (sectionSize n′) t) (slotsAround v′ (partOf (third + countSize) used sheet) (drop countSize t))) sheet w r sheet′ w′
+              → Writes pairBytes (pairSize limits) (slotted (listsOf n′ m′ (listSize n′) t) (slotsAround v′ (partOf (third + countSize) used sheet) (drop countSize t))) sheet w r sheet′ w′
               → Revised sheet used q w r sheet′ w′
           revised-done x =
-              let e : slotted (listsOf n′ m′ (sectionSize n′) t) (slotsAround v′ (partOf (third + countSize) used sheet) (drop countSize t)) ≡ editedOf limits (take used sheet) q =
+              let e : slotted (listsOf n′ m′ (listSize n′) t) (slotsAround v′ (partOf (third + countSize) used sheet) (drop countSize t)) ≡ editedOf limits (take used sheet) q =
               rw (same, groups-are) (sym revised-slotted ∙ ap (λ (z : List ℕ). editedOf limits z q) is) in
               rw e at x

@@ -15,8 +15,8 @@ use Rattle.wire.specs.Numbers.{numberBytes}
 use Rattle.wire.specs.Records.{recordsBytes}
 use Rattle.wire.proofs.Numbers.{numberBytes-length}
 use Rattle.wire.proofs.Records.{records-append, RuleFits, recordsBytes-length}
-use Rattle.sheet.specs.Sections.{sectionBytes}
 use Rattle.editing.specs.Orders.{spliced}
+use Rattle.wire.specs.Lists.{listBytes}
 
 -- five parts one behind another
 module _ (out a b c d e o₁ o₂ o₃ o₄ o₅ : List ℕ) (p q r s : ℕ) where
@@ -63,9 +63,9 @@ parts-spliced lists x c f g b new start count place out e lx lc lf lg =
 
 -- a section changed between what stands before it and behind it
 pub section-spliced : (x y new : List ℕ) (l : List Rule) (i : ℕ) (k : Kind) (lists : List ℕ) (start count : ℕ) → Each RuleFits l → i + out k ≤ length l
-    → lists ≡ x ++ (sectionBytes l ++ y) → length x ≡ start → new ≡ recordsBytes (put k) → count ≡ length (changed i k l)
-    → spliced lists start count i (out k) new ≡ x ++ (sectionBytes (changed i k l) ++ y)
-unfolding sectionBytes
+    → lists ≡ x ++ (listBytes l ++ y) → length x ≡ start → new ≡ recordsBytes (put k) → count ≡ length (changed i k l)
+    → spliced lists start count i (out k) new ≡ x ++ (listBytes (changed i k l) ++ y)
+unfolding listBytes
 section-spliced x y new l i k lists start count fits h e lx en ec =
     let f : List Rule = front i l in
     let g : List Rule = gone i k l in

@@ -21,7 +21,7 @@ ghost use lib.Seq.{sets};
 ghost use Rattle.policy.specs.Fields.{countSize, recordSize, limits};
 ghost use Rattle.policy.specs.Rules.{anyAllow};
 ghost use Rattle.sheet.specs.Orders.{orderSize};
-ghost use Rattle.sheet.specs.Sections.{sectionSize};
+ghost use Rattle.wire.specs.Lists.{listSize};
 ghost use Rattle.sheet.specs.Pairs.{pairSize};
 ghost use Rattle.sheet.specs.Readers.{rulesOf, listsOf};
 ghost use Rattle.groups.specs.Worked.{workSize};
@@ -140,7 +140,7 @@ fn change_order(
 
 // Whether an allow is among n rules of a list from a place on, where n is 0 or 1.
 fn any_allow(list: &[u8], place: usize, n: usize) -> bool
-    requires { ⌜ (n ≤ 1) × (sectionSize (place + n) ≤ length (now list)) ⌝ }
+    requires { ⌜ (n ≤ 1) × (listSize (place + n) ≤ length (now list)) ⌝ }
     ensures { λ r. ⌜ r ≡ anyAllow (drop place (rulesOf (place + n) (now (list .entry)))) ⌝ }
 {
     if n == 0 {
@@ -160,7 +160,7 @@ fn gate_places(
     order: &[u8],
     renewed: usize,
 ) -> Around
-    requires { ⌜ (sectionSize gate ≤ length (now pair)) × (sectionSize renewed ≤ length (now order)) × (place + takenBy change ≤ gate) × (place + putBy change ≤ renewed) ⌝ }
+    requires { ⌜ (listSize gate ≤ length (now pair)) × (listSize renewed ≤ length (now order)) × (place + takenBy change ≤ gate) × (place + putBy change ≤ renewed) ⌝ }
     ensures { λ r. ⌜ r ≡ aroundOf true place change (rulesOf gate (now (pair .entry))) (rulesOf renewed (now (order .entry))) ⌝ }
 {
     let taken = taken_by(change);
@@ -200,7 +200,7 @@ fn places(
     order: &[u8],
     renewed: usize,
 ) -> Around
-    requires { ⌜ (sectionSize gate ≤ length (now pair)) × (sectionSize renewed ≤ length (now order)) × (Inside (eqb list 0) place change gate renewed) ⌝ }
+    requires { ⌜ (listSize gate ≤ length (now pair)) × (listSize renewed ≤ length (now order)) × (Inside (eqb list 0) place change gate renewed) ⌝ }
     ensures { λ r. ⌜ r ≡ aroundOf (eqb list 0) place change (rulesOf gate (now (pair .entry))) (rulesOf renewed (now (order .entry))) ⌝ }
 {
     if list == 0 {

@@ -17,9 +17,10 @@ use Rattle.wire.specs.Numbers.{numberBytes, numberIn, Byte}
 use Rattle.wire.specs.Records.{recordsBytes, rulesIn}
 use Rattle.wire.proofs.Numbers.{numberBytes-length, number-back, bytes-back, bytes-take, bytes-drop}
 use Rattle.wire.proofs.Records.{RuleFits, sound-fits, recordsBytes-length, rulesIn-length, rules-back, records-written-back}
-use Rattle.filter.specs.Lookup.{Hit, hit, lookFrom, listBytes, listSize, lookup}
+use Rattle.filter.specs.Lookup.{Hit, hit, lookFrom, lookup}
 use Rattle.filter.specs.Verdicts.{decidedBy}
 use Rattle.filter.proofs.Lookups.{good-head}
+use Rattle.wire.specs.Lists.{listBytes, listSize}
 
 -- Rules with no fault fit their records.
 pub faultless-fit : (l : List Rule) → faults l ≡ 0 → Each RuleFits l

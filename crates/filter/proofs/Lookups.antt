@@ -14,7 +14,8 @@ use Rattle.policy.specs.Rules.{Rule, sound}
 use Rattle.policy.specs.Refusals.{Outcome, accepted, refused, test}
 use Rattle.wire.specs.Numbers.{numberIn}
 use Rattle.wire.specs.Records.{ruleIn, rulesIn}
-use Rattle.filter.specs.Lookup.{Hit, hit, lookFrom, listSize, lookup}
+use Rattle.filter.specs.Lookup.{Hit, hit, lookFrom, lookup}
+use Rattle.wire.specs.Lists.{listSize}
 
 -- What is left of the search of a list's n rules once it has come to place i.
 abbrev pub Left : Packet → List ℕ → ℕ → ℕ → Type 0

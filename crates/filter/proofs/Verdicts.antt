@@ -17,10 +17,11 @@ use Rattle.policy.proofs.Answers.{number-once, test-accepted}
 use Rattle.wire.specs.Numbers.{numberIn}
 use Rattle.wire.specs.Records.{rulesIn}
 use Rattle.wire.proofs.Records.{sound-action, rulesIn-length}
-use Rattle.filter.specs.Lookup.{Hit, hit, lookFrom, listSize, lookup, refusalBase, lookupNumber}
+use Rattle.filter.specs.Lookup.{Hit, hit, lookFrom, lookup, refusalBase, lookupNumber}
 use Rattle.filter.specs.Verdicts.{verdict}
 use Rattle.filter.specs.declared.Verdict.{Verdict}
 use Rattle.filter.specs.declared.Verdict.the-variants.{Decided, Refused}
+use Rattle.wire.specs.Lists.{listSize}
 
 -- Two verdicts of one lookup are equal.
 verdict-once : (v w : Verdict) → verdict v ≡ verdict w → v ≡ w

@@ -1,15 +1,15 @@
 -- Lookup of a packet in list bytes (01, Calls and Numbers given back). Assumes nothing.
-use mathlib.Core.List.{List, [], _∷_, _++_}
+use mathlib.Core.List.{List, [], _∷_}
 use mathlib.Core.Bool.{cond}
 use Prim.Native.Nat.{ℕ, suc, _+_, _*_}
 use lib.Dec.{leb, eqb}
-use lib.ListN.{length, take, drop}
-use Rattle.policy.specs.Fields.{countSize, recordSize}
+use lib.ListN.{length, drop}
+use Rattle.policy.specs.Fields.{countSize}
 use Rattle.policy.specs.Ranges.{Packet, inside}
 use Rattle.policy.specs.Rules.{Rule, sound}
 use Rattle.policy.specs.Refusals.{Outcome, accepted, refused, test}
-use Rattle.wire.specs.Numbers.{numberBytes, numberIn}
-use Rattle.wire.specs.Records.{recordsBytes, rulesIn}
+use Rattle.wire.specs.Records.{rulesIn}
+use Rattle.wire.specs.Lists.{countIn, listSize}
 
 -- The rule that decides: its place, from 0, and its action.
 pub record Hit : Type 0 where
@@ -24,16 +24,6 @@ unfoldable pub lookFrom : ℕ → Packet → List Rule → Outcome Hit
 lookFrom n p [] = refused 5
 lookFrom n p (r ∷ l) =
     test (sound r) 4 (cond (inside p (r .region)) (accepted (hit n (r .action))) (lookFrom (suc n) p l))
-
--- 01, Sheets: a list is its count and its records.
-unfoldable pub listBytes : List Rule → List ℕ
-listBytes l = numberBytes countSize (length l) ++ recordsBytes l
-
-abbrev pub listSize : ℕ → ℕ
-listSize n = countSize + recordSize * n
-
-abbrev countIn : List ℕ → ℕ
-countIn s = numberIn (take countSize s)
 
 -- The count is there (3) and within its limits (2), the length is exactly that of so many records (3); then the rules.
 unfoldable pub lookup : ℕ → Packet → List ℕ → Outcome Hit

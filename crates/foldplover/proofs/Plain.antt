@@ -16,7 +16,6 @@ use Rattle.policy.specs.declared.Answer.{Answer}
 use Rattle.policy.specs.declared.Answer.the-variants.{Length, Refused}
 use Rattle.policy.proofs.Answers.{test-accepted}
 use Rattle.wire.specs.RecordCalls.{readingOf, writingOf, answered, RecordRead, RecordWritten}
-use Rattle.sheet.specs.Sections.{sectionBytes}
 use Rattle.sheet.specs.Orders.{orderBytes, orderIn, gateSize, ownSize, orderSize}
 use Rattle.sheet.specs.Split.{splitOf, splitSaid, splitGate, Split}
 use Rattle.sheet.specs.Join.{joinOf, joinSaid, joinSheet, Join}
@@ -25,6 +24,7 @@ use Rattle.planner.specs.Calls.{roomFor, Call, checkOf, yes, Checks}
 use Rattle.planner.proofs.Lengths.{filled-within, call-length}
 use Rattle.filter.specs.Lookup.{refusalBase}
 use Rattle.foldplover.specs.Coded.{Plain}
+use Rattle.wire.specs.Lists.{listBytes}
 
 -- A call that writes into a buffer of a size below every refusal's number.
 pub call-plain :
@@ -59,7 +59,7 @@ split-small : (s a b : List ℕ) (x : Outcome Order) → splitOf limits s a b �
 unfolding splitOf splitGate splitSaid
 split-small s a b (accepted o) e h =
     let t = test-accepted (leb (gateSize limits) (length a)) 1 (test (leb (ownSize limits) (length b)) 1 (orderIn limits s)) e in
-    let w = filled-within (gateSize limits) a (sectionBytes (o .gate)) (leb-true (gateSize limits) (length a) (t .0)) h in
+    let w = filled-within (gateSize limits) a (listBytes (o .gate)) (leb-true (gateSize limits) (length a) (t .0)) h in
     omega arith
 split-small s a b (refused n) e h = tt
 

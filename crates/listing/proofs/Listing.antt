@@ -23,17 +23,17 @@ use Rattle.wire.proofs.Numbers.{numberBytes-length, bytes-drop}
 use Rattle.wire.proofs.Records.{records-append, box-written-back, boxesIn-length, rulesIn-length, records-written-back}
 use Rattle.wire.proofs.Buffers.{filled-is, filled-front}
 use Rattle.groups.specs.Worked.{workSize}
-use Rattle.sheet.specs.Sections.{countIn, sectionBytes}
 use Rattle.sheet.specs.Pairs.{groupSize, groupBoxes}
 use Rattle.sheet.specs.Readers.{rulesOf, groupsFrom, pairOf, pairHeard, PairPlace}
 use Rattle.sheet.specs.declared.PairParts.the-variants as P
-use Rattle.sheet.proofs.Sections.{sectionBytes-length}
+use Rattle.sheet.proofs.Sections.{listBytes-length}
 use Rattle.sheet.proofs.Orders.{faultless-fits}
 use Rattle.planner.specs.Calls.{written, lengthOf, checkOf, Call, cellBytes, gateBytes, gateSize}
 use Rattle.listing.specs.Steps.{CheckRead, boxRecords, boxCount, groupRecords, ListPut}
 use Rattle.planner.proofs.Good.{denials-length, gate-list-good}
 use Rattle.planner.proofs.Calls.{call-done}
 use Rattle.planner.proofs.Finished.{refuses}
+use Rattle.wire.specs.Lists.{countIn, listBytes}
 
 -- the records of two lists, and the deny rules of two lists of boxes, one behind the other
 denials-append : (x y : List Region) → denials (x ++ y) ≡ denials x ++ denials y
@@ -173,7 +173,7 @@ module _ {s : List ℕ} {n m middle third boxes : ℕ} (p : PairPlace s n m midd
       rw (e, ← drop-drop countSize middle s) (records-written-back m (drop countSize (drop middle s)) (rw (length-drop, length-drop) (omega (arith, l .ownEnd, l .inside))) (bytes-drop countSize (drop middle s) (bytes-drop middle s bytes)))
 
   cell-content : cellBytes pair ≡ numberBytes countSize (boxes + m) ++ (groupRecords groups (drop (third + countSize) s) ++ own)
-  unfolding cellBytes sectionBytes
+  unfolding cellBytes listBytes
   cell-content =
       let bs : List Region = together (pair .groups) in
       let c : length (denials bs ++ rulesOf m (drop middle s)) ≡ boxes + m = rw (length-append, denials-length, rulesIn-length, ← p .boxesAre) refl in
@@ -207,9 +207,9 @@ module _ {s : List ℕ} {n m middle third boxes : ℕ} (p : PairPlace s n m midd
 -- The gate list: the count and the one rule, which fill it.
 pub gate-put : (p : Pair) (list c₁ last : List ℕ) (r : Rule) → gateSize ≤ length list → r ≡ rule full 1 → c₁ ≡ sets list 0 (numberBytes countSize 1)
     → last ≡ sets c₁ countSize (recordBytes r) → ListPut (gateBytes p) gateSize list gateSize last
-unfolding gateBytes sectionBytes recordsBytes
+unfolding gateBytes listBytes recordsBytes
 gate-put p list c₁ last r h e f g =
-    let l : length (gateBytes p) ≡ gateSize = sectionBytes-length (gateList p) (faultless-fits (limits .total) (gateList p) (omega arith) (gate-list-good limits p (omega arith)) .rules) in
+    let l : length (gateBytes p) ≡ gateSize = listBytes-length (gateList p) (faultless-fits (limits .total) (gateList p) (omega arith) (gate-list-good limits p (omega arith)) .rules) in
     let head : List ℕ = numberBytes countSize 1 in
     let z : 0 + length head ≡ countSize = omega (arith, numberBytes-length countSize 1) in
     let w : sets list 0 (head ++ recordBytes (rule full 1)) ≡ last = sets-append list 0 head (recordBytes (rule full 1)) ∙ rw (z, ← f, ← e) (sym g) in

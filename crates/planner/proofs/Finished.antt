@@ -26,7 +26,6 @@ use Rattle.wire.specs.Records.{rulesIn}
 use Rattle.wire.specs.Buffers.{filled}
 use Rattle.wire.proofs.Records.{rulesIn-length}
 use Rattle.wire.proofs.Numbers.{numberBytes-length}
-use Rattle.sheet.specs.Sections.{sectionSize}
 use Rattle.sheet.specs.Orders.{orderBytes}
 use Rattle.sheet.specs.Pairs.{groupsBytes, pairBytes, pairSize}
 use Rattle.sheet.specs.Readers.{rulesOf, listsOf, groupsFrom}
@@ -45,6 +44,7 @@ use Rattle.planner.specs.Steps.{Writes, slotted, partOf, Finishing}
 use Rattle.draft.specs.declared.Around.{Around}
 use Rattle.draft.proofs.Runs.{held-front}
 use Rattle.draft.proofs.Laid.{groups-laid}
+use Rattle.wire.specs.Lists.{listSize}
 
 -- A refusal writes nothing.
 pub refuses : {A : Type 0} (bytes : A → List ℕ) (size : ℕ) (x : Outcome A) (out w w′ : List ℕ) (f : Refusal)
@@ -68,11 +68,11 @@ stretch-proper i to rules h f =
     rw (rules-front i to rules h) at (each-imp (Each Proper) ProperGroup _ (λ g q. every-each (proper highest) g q) (rw d at p))
 
 module _ {sheet order draft w : List ℕ} {used from gate own : ℕ} {v : Around} (ready : Finishing sheet used from order gate own v draft w) (bytes : Each Byte order) where
-  a : OrderAccepted order gate own (sectionSize gate)
-  a = order-accepted (ready .reads) bytes gate own (sectionSize gate) refl
+  a : OrderAccepted order gate own (listSize gate)
+  a = order-accepted (ready .reads) bytes gate own (listSize gate) refl
 
   abbrev o : Order
-  o = listsOf gate own (sectionSize gate) order
+  o = listsOf gate own (listSize gate) order
 
   abbrev groups : List ℕ
   groups = partOf from used sheet
@@ -83,7 +83,7 @@ module _ {sheet order draft w : List ℕ} {used from gate own : ℕ} {v : Around
   abbrev p : Pair
   p = record { order = o; groups = map boxesOf l }
 
-  pub order-long : sectionSize gate ≤ length order
+  pub order-long : listSize gate ≤ length order
   order-long = omega (arith, a .place .ownEnd)
 
   pub own-few : own ≤ limits .own
@@ -121,7 +121,7 @@ module _ {sheet order draft w : List ℕ} {used from gate own : ℕ} {v : Around
       boxes-are = drawn-boxes drafting
 
       own-are : length (o .own) ≡ own
-      own-are = rulesIn-length own (drop countSize (drop (sectionSize gate) order))
+      own-are = rulesIn-length own (drop countSize (drop (listSize gate) order))
 
       pub finish-seven : limits .total < b + own → Writes pairBytes (pairSize limits) (slotted o l) sheet w (Refused TooManyBoxes) sheet w′
       unfolding slotted room work
@@ -178,7 +178,7 @@ module _ {sheet order draft w : List ℕ} {used from gate own : ℕ} {v : Around
 
           sheet-is : sheetOf order n (take end draft′) ≡ pairBytes p
           unfolding pairBytes orderBytes
-          sheet-is = rw (counted, content, a .gateBytes, a .ownBytes, take-append-drop (sectionSize gate) order)
+          sheet-is = rw (counted, content, a .gateBytes, a .ownBytes, take-append-drop (listSize gate) order)
 
           pub finish-few : n < 65536
           finish-few = omega (arith, denies-most (rulesOf gate order), rulesIn-length gate (drop countSize order), a .place .gateLimit)

@@ -18,14 +18,14 @@ use Rattle.policy.proofs.Numbers.{orElse-zero, orElse-both, given-zero}
 use Rattle.policy.proofs.Proper.{Proper, moved-proper}
 use Rattle.policy.proofs.Edits.{move-accepted, list-accepted, slots-length, faults-append}
 use Rattle.wire.proofs.Numbers.{numberBytes-length}
-use Rattle.sheet.specs.Sections.{sectionSize}
 use Rattle.sheet.specs.Orders.{orderBytes}
 use Rattle.sheet.specs.Pairs.{pairBytes, pairSize}
-use Rattle.sheet.proofs.Sections.{sectionBytes-length}
+use Rattle.sheet.proofs.Sections.{listBytes-length}
 use Rattle.sheet.proofs.Outcomes.{faultless}
 use Rattle.sheet.proofs.Orders.{faultless-fits}
 use Rattle.draft.proofs.Laid.{groups-length}
 use Rattle.sheet.proofs.Pairs.{ProperGroup, PairGood, denies-most}
+use Rattle.wire.specs.Lists.{listSize}
 
 pub moved-good : (lim : Limits) (o : Order) → moveRefusal lim o ≡ 0 → PairGood lim (moved o)
 unfolding room
@@ -46,11 +46,11 @@ moved-good lim o h =
 
 -- how long the bytes of a pair are
 module _ (lim : Limits) (p : Pair) (u : lim .gate < 65536) (v : lim .own < 65536) (good : PairGood lim p) where
-  pub pair-length : length (pairBytes p) ≡ sectionSize (length (p .order .gate)) + sectionSize (length (p .order .own)) + (countSize + (countSize * length (p .groups) + boxSize * length (together (p .groups))))
+  pub pair-length : length (pairBytes p) ≡ listSize (length (p .order .gate)) + listSize (length (p .order .own)) + (countSize + (countSize * length (p .groups) + boxSize * length (together (p .groups))))
   unfolding pairBytes orderBytes
   pair-length =
-      let g = sectionBytes-length (p .order .gate) (faultless-fits (lim .gate) (p .order .gate) u (good .gate) .rules) in
-      let w = sectionBytes-length (p .order .own) (faultless-fits (lim .own) (p .order .own) v (good .own) .rules) in
+      let g = listBytes-length (p .order .gate) (faultless-fits (lim .gate) (p .order .gate) u (good .gate) .rules) in
+      let w = listBytes-length (p .order .own) (faultless-fits (lim .own) (p .order .own) v (good .own) .rules) in
       let c = groups-length (p .groups) (good .groups .boxes) in
       rw (length-append, length-append, length-append, numberBytes-length) (omega arith)
 

@@ -16,7 +16,6 @@ use Rattle.policy.specs.declared.Refusal.{Refusal}
 use Rattle.policy.proofs.Edits.{slots-length}
 use Rattle.wire.specs.Records.{rulesIn}
 use Rattle.groups.specs.Worked.{workSize}
-use Rattle.sheet.specs.Sections.{sectionSize}
 use Rattle.sheet.specs.Orders.{orderIn}
 use Rattle.sheet.specs.Pairs.{groupsBytes, pairBytes, pairSize}
 use Rattle.sheet.specs.Readers.{listsOf, groupsFrom, OrderRead}
@@ -28,6 +27,7 @@ use Rattle.draft.specs.declared.Around.{Around}
 use Rattle.planner.specs.Calls.{planOf, moveOf}
 use Rattle.planner.specs.Steps.{Writes, Planned, slotted, partOf, Finishing}
 use Rattle.planner.proofs.Finished.{refuses}
+use Rattle.wire.specs.Lists.{listSize}
 
 pub plan-refused : (s out w : List ℕ) (f : Refusal) → orderIn limits s ≡ refused (numberOf f) → Planned s out w (Refused f) out w
 unfolding moveOf
@@ -68,7 +68,7 @@ module _ {s : List ℕ} {n m middle : ℕ} (a : OrderAccepted s n m middle) wher
   })
 
   pub plan-done : {sheet w sheet′ w′ : List ℕ} {r : Answer} (to : ℕ) → to ≡ n
-      → Writes pairBytes (pairSize limits) (slotted (listsOf n m (sectionSize n) s) (slotsAround (fresh to) (partOf 0 0 sheet) (drop countSize s))) sheet w r sheet′ w′
+      → Writes pairBytes (pairSize limits) (slotted (listsOf n m (listSize n) s) (slotsAround (fresh to) (partOf 0 0 sheet) (drop countSize s))) sheet w r sheet′ w′
       → Planned s sheet w r sheet′ w′
   unfolding moveOf planOf slotted
   plan-done {sheet} to e x = rw (a .reads) (rw (e, all-anew (partOf 0 0 sheet), ← a .place .gateEnd) at x)

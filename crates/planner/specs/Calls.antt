@@ -13,9 +13,9 @@ use Rattle.policy.specs.Check.{checkRefusal}
 use Rattle.policy.specs.declared.Answer.{Answer}
 use Rattle.wire.specs.Buffers.{zeroed, filled}
 use Rattle.groups.specs.Worked.{workSize}
-use Rattle.sheet.specs.Sections.{sectionSize, sectionBytes}
 use Rattle.sheet.specs.Orders.{orderIn}
 use Rattle.sheet.specs.Pairs.{pairIn, pairBytes, pairSize}
+use Rattle.wire.specs.Lists.{listSize, listBytes}
 
 -- Number 1: what is lent is long enough.
 unfoldable pub roomFor : ℕ → List ℕ → Bool
@@ -73,16 +73,16 @@ pub record Checks (s w : List ℕ) (r : Answer) (w′ : List ℕ) : Type 0 where
 
 -- Cell list and gate list: check, then the list that is wanted.
 unfoldable pub cellBytes : Pair → List ℕ
-cellBytes p = sectionBytes (cellList p)
+cellBytes p = listBytes (cellList p)
 
 unfoldable pub gateBytes : Pair → List ℕ
-gateBytes p = sectionBytes (gateList p)
+gateBytes p = listBytes (gateList p)
 
 abbrev pub cellSize : ℕ
-cellSize = sectionSize (limits .total)
+cellSize = listSize (limits .total)
 
 abbrev pub gateSize : ℕ
-gateSize = sectionSize 1
+gateSize = listSize 1
 
 abbrev pub Lists : (Pair → List ℕ) → ℕ → List ℕ → List ℕ → List ℕ → Answer → List ℕ → List ℕ → Type 0
 Lists bytes size s out w r out′ w′ = Call bytes size (bothLent size out w) (checkOf limits s) out w r out′ w′

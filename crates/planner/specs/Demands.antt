@@ -16,11 +16,11 @@ use Rattle.policy.specs.Demands.{inGateAt, OthersKept}
 use Rattle.policy.specs.declared.Answer.{Answer}
 use Rattle.policy.specs.declared.Answer.the-variants.{Length, Refused}
 use Rattle.groups.specs.Worked.{workSize}
-use Rattle.sheet.specs.Sections.{sectionBytes}
 use Rattle.sheet.specs.Orders.{orderIn, orderBytes, listIn}
 use Rattle.sheet.specs.Pairs.{pairIn, pairBytes, pairSize}
 use Rattle.planner.specs.Calls.{roomFor, moveOf, Moves, checkOf, written}
 use Rattle.planner.specs.Edits.{Asked, kindOf, editOf, editedOf, editLent, Edits}
+use Rattle.wire.specs.Lists.{listBytes}
 
 -- Demand 2 of an order sheet's bytes that a move accepts with the pair p. Its lists o are those that the bytes say, and say
 -- the same bytes; the sheet written is read as p, and passes check; its two lists, read from their bytes, forward a packet
@@ -31,8 +31,8 @@ pub record DemandTwo (lim : Limits) (s : List ℕ) (o : Order) (p : Pair) : Type
   pub pair : p ≡ moved o
   pub sheet : pairIn lim (pairBytes p) ≡ accepted p
   pub checks : checkOf lim (pairBytes p) ≡ accepted p
-  pub gate : listIn (lim .total) (sectionBytes (gateList p)) ≡ accepted (gateList p)
-  pub cell : listIn (lim .total) (sectionBytes (cellList p)) ≡ accepted (cellList p)
+  pub gate : listIn (lim .total) (listBytes (gateList p)) ≡ accepted (gateList p)
+  pub cell : listIn (lim .total) (listBytes (cellList p)) ≡ accepted (cellList p)
   pub forwarded : (q : Packet) → forwards q (gateList p) (cellList p) ≡ forwards q (o .gate) (o .own)
   pub boxes : (q : Packet) → anyHas q (together (p .groups)) ≡ drops q (o .gate)
 

@@ -9,7 +9,6 @@ use Rattle.policy.specs.Refusals.{Outcome, unless, said}
 use Rattle.policy.specs.Move.{Slot, boxesOf, room, Order, Pair}
 use Rattle.policy.specs.declared.Answer.{Answer}
 use Rattle.groups.specs.Worked.{workSize}
-use Rattle.sheet.specs.Sections.{sectionSize}
 use Rattle.sheet.specs.Pairs.{pairBytes, pairSize}
 use Rattle.sheet.specs.Readers.{rulesOf, OrderRead}
 use Rattle.sheet.specs.declared.OrderParts.the-variants.{Parts}
@@ -17,6 +16,7 @@ use Rattle.draft.specs.Drafts.{draftSize}
 use Rattle.draft.specs.Arounds.{GroupsHeld, slotsAround, Placed}
 use Rattle.draft.specs.declared.Around.{Around}
 use Rattle.planner.specs.Calls.{moveOf, written, lengthOf}
+use Rattle.wire.specs.Lists.{listSize}
 
 -- A result written to a buffer, or a refusal; nothing changed behind the work buffer's front.
 pub record Writes {A : Type 0} (bytes : A → List ℕ) (size : ℕ) (x : Outcome A) (out w : List ℕ) (r : Answer) (out′ w′ : List ℕ) : Type 0 where
@@ -38,7 +38,7 @@ partOf from to s = take (to - from) (drop from s)
 
 -- What the last step asks for: the new order sheet reads well, and the old groups stand in the sheet from `from` up to `used`.
 pub record Finishing (sheet : List ℕ) (used from : ℕ) (order : List ℕ) (gate own : ℕ) (v : Around) (draft work : List ℕ) : Type 0 where
-  pub reads : OrderRead order (Parts gate own (sectionSize gate))
+  pub reads : OrderRead order (Parts gate own (listSize gate))
   pub held : GroupsHeld (partOf from used sheet) (v .groups)
   pub placed : Placed v gate
   pub counted : length (slotsAround v (partOf from used sheet) (drop countSize order)) ≡ denies (rulesOf gate order)

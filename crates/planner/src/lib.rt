@@ -14,7 +14,7 @@ ghost use Prim.Native.Nat.{_≤_};
 ghost use lib.ListN.{length, drop};
 ghost use Rattle.policy.specs.Fields.{countSize, limits};
 ghost use Rattle.groups.specs.Worked.{workSize};
-ghost use Rattle.sheet.specs.Sections.{sectionSize};
+ghost use Rattle.wire.specs.Lists.{listSize};
 ghost use Rattle.sheet.specs.Pairs.{pairBytes, pairSize};
 ghost use Rattle.sheet.specs.Readers.{listsOf};
 ghost use Rattle.draft.specs.Drafts.{draftSize};
@@ -43,7 +43,7 @@ pub fn finish(
     work: &mut [u8],
 ) -> Answer
     requires { ⌜ Finishing (now sheet) used from (now order) gate own around (now draft) (now work) ⌝ }
-    ensures { λ r. ⌜ Writes pairBytes (pairSize limits) (slotted (listsOf gate own (sectionSize gate) (now (order .entry))) (slotsAround around (partOf from used (now (sheet .entry))) (drop countSize (now (order .entry))))) (now (sheet .entry)) (now (work .entry)) r (now (sheet .exit)) (now (work .exit)) ⌝ }
+    ensures { λ r. ⌜ Writes pairBytes (pairSize limits) (slotted (listsOf gate own (listSize gate) (now (order .entry))) (slotsAround around (partOf from used (now (sheet .entry))) (drop countSize (now (order .entry))))) (now (sheet .entry)) (now (work .entry)) r (now (sheet .exit)) (now (work .exit)) ⌝ }
 {
     match draft::kept::draft_around(
         &sheet[from..used],

@@ -15,7 +15,6 @@ use Rattle.policy.specs.declared.Refusal.{Refusal}
 use Rattle.wire.specs.Numbers.{numberBytes, Byte}
 use Rattle.wire.proofs.Numbers.{numberBytes-length}
 use Rattle.wire.proofs.Records.{rulesIn-length}
-use Rattle.sheet.specs.Sections.{sectionSize, sectionBytes}
 use Rattle.sheet.specs.Orders.{orderIn, orderBytes, listIn}
 use Rattle.sheet.specs.Pairs.{groupsBytes, pairIn, pairBytes}
 use Rattle.sheet.specs.Readers.{rulesOf, listHeard, ListPlace, ListPlaced, ListRead, listsOf, ListsPlace, orderHeard, OrderPlaced, OrderRead, pairOf, pairHeard, PairPlace, PairPlaced, PairRead}
@@ -25,9 +24,10 @@ use Rattle.sheet.specs.declared.OrderParts.{OrderParts}
 use Rattle.sheet.specs.declared.OrderParts.the-variants as O
 use Rattle.sheet.specs.declared.PairParts.{PairParts}
 use Rattle.sheet.specs.declared.PairParts.the-variants as P
-use Rattle.sheet.proofs.Sections.{sectionBytes-length}
+use Rattle.sheet.proofs.Sections.{listBytes-length}
 use Rattle.sheet.proofs.Orders.{faultless-fits, order-faultless, order-written-back, list-faultless, list-written-back}
 use Rattle.sheet.proofs.Pairs.{PairGood, pair-good, pair-written-back}
+use Rattle.wire.specs.Lists.{listSize, listBytes}
 
 -- A list by itself.
 pub list-refused : {most : ℕ} {s : List ℕ} {r : Section} → ListRead most s r → (f : Refusal) → r ≡ S.Fault f → listIn most s ≡ refused (numberOf f)
@@ -37,7 +37,7 @@ list-refused {s = s} x f e = sym (x .says) ∙ ap (listHeard s) e
 pub record ListAccepted (most : ℕ) (s : List ℕ) (n next : ℕ) : Type 0 where
   pub reads : listIn most s ≡ accepted (rulesOf n s)
   pub faultless : listRefusal most (rulesOf n s) ≡ 0
-  pub bytes : sectionBytes (rulesOf n s) ≡ s
+  pub bytes : listBytes (rulesOf n s) ≡ s
   pub place : ListPlace most s n next
 
 pub list-accepted :
@@ -53,9 +53,9 @@ list-accepted {most} {s} x b n next e =
     }
 
 -- Where a section's bytes end.
-section-end : (most n : ℕ) (s : List ℕ) → most < 65536 → listRefusal most (rulesOf n s) ≡ 0 → length (sectionBytes (rulesOf n s)) ≡ sectionSize n
+section-end : (most n : ℕ) (s : List ℕ) → most < 65536 → listRefusal most (rulesOf n s) ≡ 0 → length (listBytes (rulesOf n s)) ≡ listSize n
 section-end most n s h e =
-    sectionBytes-length (rulesOf n s) (faultless-fits most (rulesOf n s) h e .rules) ∙ ap (λ (k : ℕ). sectionSize k) (rulesIn-length n (drop countSize s))
+    listBytes-length (rulesOf n s) (faultless-fits most (rulesOf n s) h e .rules) ∙ ap (λ (k : ℕ). listSize k) (rulesIn-length n (drop countSize s))
 
 -- An order sheet.
 pub order-refused : {s : List ℕ} {r : OrderParts} → OrderRead s r → (f : Refusal) → r ≡ O.Fault f → orderIn limits s ≡ refused (numberOf f)
@@ -66,8 +66,8 @@ pub record OrderAccepted (s : List ℕ) (n m middle : ℕ) : Type 0 where
   pub reads : orderIn limits s ≡ accepted (listsOf n m middle s)
   pub gateFaultless : listRefusal (limits .gate) (rulesOf n s) ≡ 0
   pub ownFaultless : listRefusal (limits .own) (rulesOf m (drop middle s)) ≡ 0
-  pub gateBytes : sectionBytes (rulesOf n s) ≡ take middle s
-  pub ownBytes : sectionBytes (rulesOf m (drop middle s)) ≡ drop middle s
+  pub gateBytes : listBytes (rulesOf n s) ≡ take middle s
+  pub ownBytes : listBytes (rulesOf m (drop middle s)) ≡ drop middle s
   pub place : ListsPlace s n m middle (length s)
 
 pub order-accepted :
@@ -78,14 +78,14 @@ order-accepted {s} x b n m middle e =
     let p : ListsPlace s n m middle (length s) = rw e at (x .place) in
     let q : orderIn limits s ≡ accepted o = sym (x .says) ∙ ap (orderHeard s) e in
     let f = order-faultless limits s o q in
-    let k : sectionBytes (o .gate) ++ sectionBytes (o .own) ≡ s = order-written-back limits s o q b in
-    let l : length (sectionBytes (o .gate)) ≡ middle = section-end (limits .gate) n s (omega arith) (f .0) ∙ sym (p .gateEnd) in
+    let k : listBytes (o .gate) ++ listBytes (o .own) ≡ s = order-written-back limits s o q b in
+    let l : length (listBytes (o .gate)) ≡ middle = section-end (limits .gate) n s (omega arith) (f .0) ∙ sym (p .gateEnd) in
     record {
       reads = q;
       gateFaultless = f .0;
       ownFaultless = f .1;
-      gateBytes = sym (ap (take middle) (sym k) ∙ take-at (sectionBytes (o .gate)) (sectionBytes (o .own)) middle l);
-      ownBytes = sym (ap (drop middle) (sym k) ∙ drop-at (sectionBytes (o .gate)) (sectionBytes (o .own)) middle l);
+      gateBytes = sym (ap (take middle) (sym k) ∙ take-at (listBytes (o .gate)) (listBytes (o .own)) middle l);
+      ownBytes = sym (ap (drop middle) (sym k) ∙ drop-at (listBytes (o .gate)) (listBytes (o .own)) middle l);
       place = p;
     }
 
@@ -98,8 +98,8 @@ pub record PairAccepted (s : List ℕ) (n m middle third boxes : ℕ) : Type 0 w
   pub reads : pairIn limits s ≡ accepted (pairOf n m middle third s)
   pub good : PairGood limits (pairOf n m middle third s)
   pub bytes : pairBytes (pairOf n m middle third s) ≡ s
-  pub gateBytes : sectionBytes (rulesOf n s) ≡ take middle s
-  pub ownBytes : sectionBytes (rulesOf m (drop middle s)) ≡ take (sectionSize m) (drop middle s)
+  pub gateBytes : listBytes (rulesOf n s) ≡ take middle s
+  pub ownBytes : listBytes (rulesOf m (drop middle s)) ≡ take (listSize m) (drop middle s)
   pub listsBytes : orderBytes (listsOf n m middle s) ≡ take third s
   pub countBytes : numberBytes countSize (denies (rulesOf n s)) ≡ take countSize (drop third s)
   pub groupBytes : groupsBytes (pairOf n m middle third s .groups) ≡ drop (third + countSize) s
@@ -115,12 +115,12 @@ pair-accepted {s} x b n m middle third boxes e =
     let w : PairPlace s n m middle third boxes = rw e at (x .place) in
     let g = pair-good limits s p q (omega arith) in
     let k = pair-written-back limits s p q b in
-    let gate : List ℕ = sectionBytes (rulesOf n s) in
-    let own : List ℕ = sectionBytes (rulesOf m (drop middle s)) in
+    let gate : List ℕ = listBytes (rulesOf n s) in
+    let own : List ℕ = listBytes (rulesOf m (drop middle s)) in
     let head : List ℕ = numberBytes countSize (length (p .groups)) in
     let rest : List ℕ = groupsBytes (p .groups) in
     let lg : length gate ≡ middle = section-end (limits .gate) n s (omega arith) (g .gate) ∙ sym (w .lists .gateEnd) in
-    let lo : length own ≡ sectionSize m = section-end (limits .own) m (drop middle s) (omega arith) (g .own) in
+    let lo : length own ≡ listSize m = section-end (limits .own) m (drop middle s) (omega arith) (g .own) in
     let lt : length (gate ++ own) ≡ third = rw (length-append, lg, lo) (sym (w .lists .ownEnd)) in
     let behind : head ++ rest ≡ drop third s = sym (ap (drop third) (sym k) ∙ drop-at (gate ++ own) (head ++ rest) third lt) in
     let whole : gate ++ (own ++ (head ++ rest)) ≡ s = sym (append-assoc gate own (head ++ rest)) ∙ k in
@@ -132,7 +132,7 @@ pair-accepted {s} x b n m middle third boxes e =
       good = g;
       bytes = k;
       gateBytes = sym (ap (take middle) (sym whole) ∙ take-at gate (own ++ (head ++ rest)) middle lg);
-      ownBytes = sym (ap (take (sectionSize m)) (sym from) ∙ take-at own (head ++ rest) (sectionSize m) lo);
+      ownBytes = sym (ap (take (listSize m)) (sym from) ∙ take-at own (head ++ rest) (listSize m) lo);
       listsBytes = sym (ap (take third) (sym k) ∙ take-at (gate ++ own) (head ++ rest) third lt);
       countBytes = ap (numberBytes countSize) (sym (g .counted)) ∙ c;
       groupBytes =

@@ -18,12 +18,13 @@ use Rattle.policy.specs.declared.Refusal.{Refusal}
 use Rattle.policy.specs.declared.Refusal.the-variants.{LengthWrong, RuleBad, TooManyBoxes}
 use Rattle.wire.specs.Records.{boxesIn}
 use Rattle.wire.proofs.Records.{boxesIn-length}
-use Rattle.sheet.specs.Sections.{Reading, reading, countIn}
+use Rattle.sheet.specs.Sections.{Reading, reading}
 use Rattle.sheet.specs.Pairs.{groupSize, groupBoxes, behind, groupsIn}
 use Rattle.sheet.specs.Readers.{withTotal, groupsFrom, groupsHeard, GroupsPlace, GroupsPlaced, GroupsRead}
 use Rattle.sheet.specs.declared.Groups.{Groups}
 use Rattle.sheet.specs.declared.Groups.the-variants.{Boxes, Fault}
 use Rattle.sheet.proofs.Parts.{part-from}
+use Rattle.wire.specs.Lists.{countIn}
 
 one-group : (s : List ℕ) → length (together (groupsFrom 1 s)) ≡ countIn s
 unfolding together groupsFrom

@@ -15,13 +15,14 @@ use Rattle.policy.specs.Move.{Order, listRefusal}
 use Rattle.wire.specs.Numbers.{Byte}
 use Rattle.wire.proofs.Numbers.{bytes-drop}
 use Rattle.wire.proofs.Records.{RuleFits, sound-fits}
-use Rattle.sheet.specs.Sections.{Reading, reading, section, sectionSize, sectionBytes}
+use Rattle.sheet.specs.Sections.{Reading, reading, section}
 use Rattle.sheet.specs.Orders.{ended, order, orderIn, orderBytes, listIn}
 use Rattle.sheet.specs.Readers.{listsIn}
 use Rattle.sheet.proofs.Outcomes.{through, faultless}
 use Rattle.sheet.proofs.Sections.{section-good, section-written-back, section-back}
 use Rattle.lists.proofs.Lists.{each-every}
 use Rattle.policy.proofs.Answers.{test-accepted}
+use Rattle.wire.specs.Lists.{listSize, listBytes}
 
 -- A list whose numbers fit their bytes.
 pub record ListFits (l : List Rule) : Type 0 where
@@ -96,9 +97,9 @@ module _ (lim : Limits) (s : List ℕ) (r : Reading Order) (e : listsIn lim s �
   lists-written-back b =
       let g = lists-good lim s r e in
       let a : Reading (List Rule) = reading (r .value .gate) (g .middle) in
-      let m : Each Byte (g .middle) = rw (section-good (lim .gate) s a (g .gate) .rest) (bytes-drop (sectionSize (length (a .value))) s b) in
-      append-assoc (sectionBytes (r .value .gate)) (sectionBytes (r .value .own)) (r .rest)
-      ∙ (ap (λ (l : List ℕ). sectionBytes (r .value .gate) ++ l) (section-written-back (lim .own) (g .middle) (reading (r .value .own) (r .rest)) m (g .own))
+      let m : Each Byte (g .middle) = rw (section-good (lim .gate) s a (g .gate) .rest) (bytes-drop (listSize (length (a .value))) s b) in
+      append-assoc (listBytes (r .value .gate)) (listBytes (r .value .own)) (r .rest)
+      ∙ (ap (λ (l : List ℕ). listBytes (r .value .gate) ++ l) (section-written-back (lim .own) (g .middle) (reading (r .value .own) (r .rest)) m (g .own))
       ∙ section-written-back (lim .gate) s a b (g .gate))
 
 unless-then : {A B : Type 0} (n : ℕ) (a : A) (f : A → Outcome B) (b : B) → f a ≡ accepted b → andThen (unless n a) f ≡ unless n b
@@ -116,7 +117,7 @@ unfolding listsIn orderBytes
 lists-back lim o t g w =
     let n : ℕ = listRefusal (lim .gate) (o .gate) in
     let m : ℕ = listRefusal (lim .own) (o .own) in
-    let rest : List ℕ = sectionBytes (o .own) ++ t in
+    let rest : List ℕ = listBytes (o .own) ++ t in
     rw (append-assoc, section-back (lim .gate) (o .gate) rest (g .rules) (g .count))
     (unless-both n m (reading (o .gate) rest) _ (reading o t)
     (rw (section-back (lim .own) (o .own) t (w .rules) (w .count)) (unless-then m (reading (o .own) t) _ (reading o t) refl)))
@@ -152,13 +153,13 @@ module _ (lim : Limits) (s : List ℕ) (o : Order) (e : orderIn lim s ≡ accept
   order-written-back b = sym (append-nil (orderBytes o)) ∙ lists-written-back lim s (reading o []) (order-lists lim s o e) b
 
 -- The same of a list by itself.
-pub list-back : (most : ℕ) (l : List Rule) → ListFits l → listIn most (sectionBytes l) ≡ unless (listRefusal most l) l
+pub list-back : (most : ℕ) (l : List Rule) → ListFits l → listIn most (listBytes l) ≡ unless (listRefusal most l) l
 unfolding listIn
 list-back most l h =
-    let e : section most (sectionBytes l) ≡ unless (listRefusal most l) (reading l []) = rw append-nil at (section-back most l [] (h .rules) (h .count)) in
+    let e : section most (listBytes l) ≡ unless (listRefusal most l) (reading l []) = rw append-nil at (section-back most l [] (h .rules) (h .count)) in
     rw e (unless-then (listRefusal most l) (reading l []) _ l refl)
 
-pub list-again : (most : ℕ) (l : List Rule) → most < 65536 → listRefusal most l ≡ 0 → listIn most (sectionBytes l) ≡ accepted l
+pub list-again : (most : ℕ) (l : List Rule) → most < 65536 → listRefusal most l ≡ 0 → listIn most (listBytes l) ≡ accepted l
 list-again most l h e = list-back most l (faultless-fits most l h e) ∙ rw e refl
 
 list-section : (most : ℕ) (s : List ℕ) (l : List Rule) → listIn most s ≡ accepted l → section most s ≡ accepted (reading l [])
@@ -172,5 +173,5 @@ module _ (most : ℕ) (s : List ℕ) (l : List Rule) (e : listIn most s ≡ acce
   pub list-faultless : listRefusal most l ≡ 0
   list-faultless = section-good most s (reading l []) (list-section most s l e) .list
 
-  pub list-written-back : Each Byte s → sectionBytes l ≡ s
-  list-written-back b = sym (append-nil (sectionBytes l)) ∙ section-written-back most s (reading l []) b (list-section most s l e)
+  pub list-written-back : Each Byte s → listBytes l ≡ s
+  list-written-back b = sym (append-nil (listBytes l)) ∙ section-written-back most s (reading l []) b (list-section most s l e)

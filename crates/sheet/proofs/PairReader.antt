@@ -13,7 +13,6 @@ use Rattle.policy.specs.Refusals.{refused, andThen, numberOf}
 use Rattle.policy.specs.declared.Refusal.{Refusal}
 use Rattle.policy.specs.declared.Refusal.the-variants.{LengthWrong, GroupsDiffer}
 use Rattle.wire.proofs.Records.{rulesIn-length}
-use Rattle.sheet.specs.Sections.{countIn, sectionSize}
 use Rattle.sheet.specs.Orders.{ended, order}
 use Rattle.sheet.specs.Pairs.{groupsIn, groupSection, pairIn}
 use Rattle.sheet.specs.Readers.{rulesOf, ListsPlace, ListsRead, GroupsRead, pairHeard, PairPlaced, PairRead}
@@ -26,6 +25,7 @@ use Rattle.sheet.proofs.Parts.{part-from}
 use Rattle.sheet.proofs.Pairs.{pair-lists}
 use Rattle.sheet.proofs.OrderReader.{lists-fault, lists-parts, lists-place}
 use Rattle.sheet.proofs.GroupReader.{groups-fault, groups-boxes, groups-place}
+use Rattle.wire.specs.Lists.{countIn, listSize}
 
 pair-faulty : {s : List ℕ} (f : Refusal) → pairIn limits s ≡ refused (numberOf f) → PairRead s (P.Fault f)
 unfolding pairHeard PairPlaced
@@ -42,7 +42,7 @@ module _ {s : List ℕ} {r : Lists} (x : ListsRead s r) where
     pub third-inside : third ≤ length s
     third-inside = place .inside
 
-    pub gate-inside : sectionSize n ≤ length s
+    pub gate-inside : listSize n ≤ length s
     gate-inside = let p = place in omega arith
 
     pub own-within : m ≤ limits .total

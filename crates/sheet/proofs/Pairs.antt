@@ -18,7 +18,7 @@ use Rattle.wire.specs.Numbers.{numberBytes, Byte}
 use Rattle.wire.specs.Records.{Fits, boxesBytes}
 use Rattle.wire.proofs.Numbers.{numberBytes-length, bytes-drop}
 use Rattle.wire.proofs.Records.{proper-fits, boxesIn-length, boxesBytes-length, boxes-back, boxes-written-back}
-use Rattle.sheet.specs.Sections.{Reading, reading, countIn}
+use Rattle.sheet.specs.Sections.{Reading, reading}
 use Rattle.sheet.specs.Orders.{order, orderBytes}
 use Rattle.sheet.specs.Pairs.{groupSize, groupBoxes, behind, groupsIn, groupSection, pairIn, groupBytes, groupsBytes, pairBytes}
 use Rattle.sheet.specs.Readers.{listsIn}
@@ -27,6 +27,7 @@ use Rattle.sheet.proofs.Outcomes.{through, faultless}
 use Rattle.sheet.proofs.Orders.{faultless-fits, ended-accepted, behind-lists, lists-faultless, lists-written-back, lists-back}
 use Rattle.lists.proofs.Lists.{each-every}
 use Rattle.policy.proofs.Answers.{test-accepted}
+use Rattle.wire.specs.Lists.{countIn}
 
 -- A group of proper boxes.
 abbrev pub ProperGroup : List Region → Type 0

@@ -16,11 +16,12 @@ use Rattle.policy.specs.Refusals.{accepted, refused, test, numberOf}
 use Rattle.policy.specs.declared.Refusal.{Refusal}
 use Rattle.policy.specs.declared.Refusal.the-variants.{CountOutside, LengthWrong, RuleBad, NotComplete}
 use Rattle.wire.specs.Records.{boxIn, ruleIn, rulesIn}
-use Rattle.sheet.specs.Sections.{reading, countIn, sectionSize, section}
+use Rattle.sheet.specs.Sections.{reading, section}
 use Rattle.sheet.specs.Orders.{listIn}
 use Rattle.sheet.specs.Readers.{rulesOf, sectionHeard, SectionPlace, SectionPlaced, SectionRead, listHeard, ListPlaced, ListRead}
 use Rattle.sheet.specs.declared.Section.{Section}
 use Rattle.sheet.specs.declared.Section.the-variants.{Rules, Fault}
+use Rattle.wire.specs.Lists.{countIn, listSize}
 
 -- The last of n rules, where the code finds it.
 complete-at : (n : ℕ) (s : List ℕ) → complete (rulesIn (suc n) s) ≡ isFull highest (boxIn (drop (recordSize * n) s))
@@ -30,10 +31,10 @@ complete-at (suc n) s =
     let e : recordSize + recordSize * n ≡ recordSize * suc n = omega arith in
     complete-at n (drop recordSize s) ∙ rw (drop-drop (recordSize * n) recordSize s, e) refl
 
-complete-last : (n : ℕ) (s : List ℕ) → 1 ≤ n → complete (rulesOf n s) ≡ isFull highest (boxIn (drop (sectionSize n - recordSize) s))
+complete-last : (n : ℕ) (s : List ℕ) → 1 ≤ n → complete (rulesOf n s) ≡ isFull highest (boxIn (drop (listSize n - recordSize) s))
 complete-last zero s h = absurd (omega arith)
 complete-last (suc n) s h =
-    let e : countSize + recordSize * n ≡ sectionSize (suc n) - recordSize = omega arith in
+    let e : countSize + recordSize * n ≡ listSize (suc n) - recordSize = omega arith in
     complete-at n (drop countSize s) ∙ rw (drop-drop (recordSize * n) countSize s, e) refl
 
 module _ (most : ℕ) (s : List ℕ) where
@@ -56,31 +57,31 @@ module _ (most : ℕ) (s : List ℕ) where
       too-many h = faulty CountOutside (rw (le-leb countSize (length s) a, ← e, le-leb 1 n b, lt-leb n most h) refl)
 
       module _ (d : n ≤ most) where
-        pub no-records : length s < sectionSize n → SectionRead most s (Fault LengthWrong)
+        pub no-records : length s < listSize n → SectionRead most s (Fault LengthWrong)
         unfolding section
         no-records h =
-            faulty LengthWrong (rw (le-leb countSize (length s) a, ← e, le-leb 1 n b, le-leb n most d, lt-leb (sectionSize n) (length s) h) refl)
+            faulty LengthWrong (rw (le-leb countSize (length s) a, ← e, le-leb 1 n b, le-leb n most d, lt-leb (listSize n) (length s) h) refl)
 
-        module _ (g : sectionSize n ≤ length s) where
+        module _ (g : listSize n ≤ length s) where
           there :
               section most s ≡ test (every sound (rulesOf n s)) 4
-              (test (complete (rulesOf n s)) 5 (accepted (reading (rulesOf n s) (drop (sectionSize n) s))))
+              (test (complete (rulesOf n s)) 5 (accepted (reading (rulesOf n s) (drop (listSize n) s))))
           unfolding section
-          there = rw (le-leb countSize (length s) a, ← e, le-leb 1 n b, le-leb n most d, le-leb (sectionSize n) (length s) g) refl
+          there = rw (le-leb countSize (length s) a, ← e, le-leb 1 n b, le-leb n most d, le-leb (listSize n) (length s) g) refl
 
           pub bad-rule : (v : Bool) → v ≡ every sound (rulesOf n s) → not v ≡ true → SectionRead most s (Fault RuleBad)
           bad-rule v k h = faulty RuleBad (there ∙ rw (sym k ∙ not-true v h) refl)
 
           -- what the code finds of the records and of the last rule
           module _ (v : Bool) (k : v ≡ every sound (rulesOf n s)) (h : not v ≡ false) (u : Bool) (x : Region) (q : u ≡ isFull highest x)
-              (y : x ≡ boxIn (drop (sectionSize n - recordSize) s)) where
+              (y : x ≡ boxIn (drop (listSize n - recordSize) s)) where
             last-is : complete (rulesOf n s) ≡ u
             last-is = complete-last n s b ∙ (sym (ap (isFull highest) y) ∙ sym q)
 
             pub not-full : not u ≡ true → SectionRead most s (Fault NotComplete)
             not-full l = faulty NotComplete (there ∙ rw (sym k ∙ not-false v h, last-is ∙ not-true u l) refl)
 
-            pub section-read : not u ≡ false → SectionRead most s (Rules n (sectionSize n))
+            pub section-read : not u ≡ false → SectionRead most s (Rules n (listSize n))
             unfolding sectionHeard SectionPlaced
             section-read l = record {
               says = sym (there ∙ rw (sym k ∙ not-false v h, last-is ∙ not-false u l) refl);

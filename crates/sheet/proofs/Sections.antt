@@ -15,18 +15,19 @@ use Rattle.wire.specs.Numbers.{numberBytes, Byte}
 use Rattle.wire.specs.Records.{recordsBytes, rulesIn}
 use Rattle.wire.proofs.Numbers.{numberBytes-length}
 use Rattle.wire.proofs.Records.{RuleFits, rulesIn-length, recordsBytes-length, rules-back, records-written-back}
-use Rattle.sheet.specs.Sections.{Reading, reading, countIn, sectionSize, sectionRules, section, sectionBytes}
+use Rattle.sheet.specs.Sections.{Reading, reading, sectionRules, section}
 use Rattle.sheet.proofs.Counts.{counted, counted-written-back}
 use Rattle.sheet.proofs.Outcomes.{list-outcome}
 use Rattle.policy.proofs.Answers.{test-accepted, unless-accepted}
+use Rattle.wire.specs.Lists.{countIn, listSize, listBytes}
 
 -- What an accepted section is.
 pub record SectionGood (most : ℕ) (s : List ℕ) (r : Reading (List Rule)) : Type 0 where
   pub list : listRefusal most (r .value) ≡ 0
   pub count : countIn s ≡ length (r .value)
-  pub there : sectionSize (length (r .value)) ≤ length s
+  pub there : listSize (length (r .value)) ≤ length s
   pub rules : r .value ≡ rulesIn (length (r .value)) (drop countSize s)
-  pub rest : r .rest ≡ drop (sectionSize (length (r .value))) s
+  pub rest : r .rest ≡ drop (listSize (length (r .value))) s
 
 pub section-good : (most : ℕ) (s : List ℕ) (r : Reading (List Rule)) → section most s ≡ accepted r → SectionGood most s r
 unfolding section
@@ -34,10 +35,10 @@ section-good most s r e =
     let a = test-accepted (leb countSize (length s)) 3 _ e in
     let b = test-accepted (leb 1 (countIn s)) 2 _ (a .1) in
     let c = test-accepted (leb (countIn s) most) 2 _ (b .1) in
-    let d = test-accepted (leb (sectionSize (countIn s)) (length s)) 3 _ (c .1) in
+    let d = test-accepted (leb (listSize (countIn s)) (length s)) 3 _ (c .1) in
     let f = test-accepted (every sound (sectionRules s)) 4 _ (d .1) in
     let g = test-accepted (complete (sectionRules s)) 5 _ (f .1) in
-    let p : reading (sectionRules s) (drop (sectionSize (countIn s)) s) ≡ r = cc (g .1) in
+    let p : reading (sectionRules s) (drop (listSize (countIn s)) s) ≡ r = cc (g .1) in
     let v : sectionRules s ≡ r .value = λ i. p i .value in
     let l : countIn s ≡ length (r .value) = sym (rulesIn-length (countIn s) (drop countSize s)) ∙ ap length v in
     let m : length (sectionRules s) ≡ countIn s = rulesIn-length (countIn s) (drop countSize s) in
@@ -46,33 +47,33 @@ section-good most s r e =
           ap (listRefusal most) (sym v)
           ∙ unless-accepted (listRefusal most (sectionRules s)) {a = r} (sym (list-outcome most (sectionRules s) r) ∙ rw (m, b .0, c .0, f .0, g .0) refl) .0;
       count = l;
-      there = omega (arith, leb-true (sectionSize (countIn s)) (length s) (d .0));
+      there = omega (arith, leb-true (listSize (countIn s)) (length s) (d .0));
       rules = sym v ∙ ap (λ (n : ℕ). rulesIn n (drop countSize s)) l;
-      rest = (λ i. sym p i .rest) ∙ ap (λ (n : ℕ). drop (sectionSize n) s) l;
+      rest = (λ i. sym p i .rest) ∙ ap (λ (n : ℕ). drop (listSize n) s) l;
     }
 
 -- What reads well is what would be written.
 pub section-written-back :
-    (most : ℕ) (s : List ℕ) (r : Reading (List Rule)) → Each Byte s → section most s ≡ accepted r → sectionBytes (r .value) ++ r .rest ≡ s
-unfolding sectionBytes
+    (most : ℕ) (s : List ℕ) (r : Reading (List Rule)) → Each Byte s → section most s ≡ accepted r → listBytes (r .value) ++ r .rest ≡ s
+unfolding listBytes
 section-written-back most s r b e =
     let a = section-good most s r e in
     let h = a .there in
     let c = a .count in
-    let f : numberBytes countSize (countIn s) ++ recordsBytes (rulesIn (countIn s) (drop countSize s)) ≡ take (sectionSize (countIn s)) s =
+    let f : numberBytes countSize (countIn s) ++ recordsBytes (rulesIn (countIn s) (drop countSize s)) ≡ take (listSize (countIn s)) s =
     counted-written-back recordSize s _ b (omega arith) (λ x l. records-written-back (countIn s) (drop countSize s) l x) in
     let g : rulesIn (countIn s) (drop countSize s) ≡ r .value = ap (λ (n : ℕ). rulesIn n (drop countSize s)) c ∙ sym (a .rules) in
-    rw (← c, ← g, f) (ap (λ (t : List ℕ). take (sectionSize (countIn s)) s ++ t) (a .rest ∙ ap (λ (n : ℕ). drop (sectionSize n) s) (sym c)) ∙ take-append-drop (sectionSize (countIn s)) s)
+    rw (← c, ← g, f) (ap (λ (t : List ℕ). take (listSize (countIn s)) s ++ t) (a .rest ∙ ap (λ (n : ℕ). drop (listSize n) s) (sym c)) ∙ take-append-drop (listSize (countIn s)) s)
 
-pub sectionBytes-length : (rs : List Rule) → Each RuleFits rs → length (sectionBytes rs) ≡ sectionSize (length rs)
-unfolding sectionBytes
-sectionBytes-length rs h = rw (length-append, numberBytes-length, recordsBytes-length rs h) refl
+pub listBytes-length : (rs : List Rule) → Each RuleFits rs → length (listBytes rs) ≡ listSize (length rs)
+unfolding listBytes
+listBytes-length rs h = rw (length-append, numberBytes-length, recordsBytes-length rs h) refl
 
 -- What is written reads back as itself, or with the number that the list is refused with.
 pub section-back :
     (most : ℕ) (rs : List Rule) (t : List ℕ) → Each RuleFits rs → length rs < 65536
-    → section most (sectionBytes rs ++ t) ≡ unless (listRefusal most rs) (reading rs t)
-unfolding section sectionBytes
+    → section most (listBytes rs ++ t) ≡ unless (listRefusal most rs) (reading rs t)
+unfolding section listBytes
 section-back most rs t h g =
     let n : ℕ = length rs in
     let c = counted recordSize n (recordsBytes rs) t g (recordsBytes-length rs h) in
@@ -82,7 +83,7 @@ section-back most rs t h g =
       c .behind,
       c .rest,
       rules-back rs t h,
-      le-leb countSize (sectionSize n + length t) (omega arith),
-      le-leb (sectionSize n) (sectionSize n + length t) (omega arith),
+      le-leb countSize (listSize n + length t) (omega arith),
+      le-leb (listSize n) (listSize n + length t) (omega arith),
     )
     (list-outcome most rs (reading rs t))

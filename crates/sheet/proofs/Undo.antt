@@ -16,12 +16,12 @@ use Rattle.policy.specs.declared.Answer.the-variants.{Length}
 use Rattle.policy.proofs.Answers.{said-once, test-accepted}
 use Rattle.wire.specs.Numbers.{Byte}
 use Rattle.wire.specs.Buffers.{filled}
-use Rattle.sheet.specs.Sections.{sectionBytes}
 use Rattle.sheet.specs.Orders.{order, orderIn, orderBytes, listIn, gateSize, ownSize, orderSize}
 use Rattle.sheet.specs.Split.{Split, splitOf, splitSaid, splitGate, splitOwn}
 use Rattle.sheet.specs.Join.{Join, joinOf, joinSaid, joinSheet}
 use Rattle.sheet.proofs.Outcomes.{through}
 use Rattle.sheet.proofs.Orders.{order-again, order-faultless, order-written-back, list-again, list-faultless, list-written-back}
+use Rattle.wire.specs.Lists.{listBytes}
 
 content-front : (end : ℕ) (out content : List ℕ) (n : ℕ) → n ≡ length content → take n (filled end out content) ≡ content
 unfolding filled
@@ -31,9 +31,9 @@ content-front end out content n e = take-at content (replicate (end - length con
 record SplitAccepted (s a b : List ℕ) (n : ℕ) (a′ b′ : List ℕ) : Type 0 where
   pub lists : Order
   pub reads : orderIn limits s ≡ accepted lists
-  pub answer : n ≡ length (sectionBytes (lists .gate))
-  pub gate : a′ ≡ filled (gateSize limits) a (sectionBytes (lists .gate))
-  pub own : b′ ≡ filled (ownSize limits) b (sectionBytes (lists .own))
+  pub answer : n ≡ length (listBytes (lists .gate))
+  pub gate : a′ ≡ filled (gateSize limits) a (listBytes (lists .gate))
+  pub own : b′ ≡ filled (ownSize limits) b (listBytes (lists .own))
 
 split-accepted : {s a b : List ℕ} {n : ℕ} {a′ b′ : List ℕ} → Split s a b (Length n) a′ b′ → SplitAccepted s a b n a′ b′
 unfolding splitOf splitSaid splitGate splitOwn
@@ -82,8 +82,8 @@ unfolding orderBytes joinOf joinSaid joinSheet
 split-then-join {s} {a} {b} {a′} {b′} {out} {out′} {n} {r} h x g y =
     let p = split-accepted x in
     let o = p .lists in
-    let gate : List ℕ = sectionBytes (o .gate) in
-    let own : List ℕ = sectionBytes (o .own) in
+    let gate : List ℕ = listBytes (o .gate) in
+    let own : List ℕ = listBytes (o .own) in
     let f = order-faultless limits s o (p .reads) in
     let k : gate ++ own ≡ s = order-written-back limits s o (p .reads) h in
     let e = p .answer in
@@ -111,8 +111,8 @@ unfolding splitOf splitSaid splitGate splitOwn
 join-then-split {a} {b} {out} {out′} {x} {y} {x′} {y′} {n} {r} h k j g w z =
     let p = join-accepted j in
     let o = p .lists in
-    let e : sectionBytes (o .gate) ≡ a = list-written-back (limits .gate) a (o .gate) (p .gate) h in
-    let f : sectionBytes (o .own) ≡ b = list-written-back (limits .own) b (o .own) (p .own) k in
+    let e : listBytes (o .gate) ≡ a = list-written-back (limits .gate) a (o .gate) (p .gate) h in
+    let f : listBytes (o .own) ≡ b = list-written-back (limits .own) b (o .own) (p .own) k in
     let u : take n out′ ≡ orderBytes o = ap (take n) (p .sheet) ∙ content-front (orderSize limits) out (orderBytes o) n (p .answer) in
     let v = rw u at z in
     let c : splitOf limits (orderBytes o) x y ≡ accepted o =

@@ -7,7 +7,8 @@ use Rattle.policy.specs.Fields.{Limits}
 use Rattle.policy.specs.Rules.{Rule}
 use Rattle.policy.specs.Refusals.{Outcome, accepted, test, andThen}
 use Rattle.policy.specs.Move.{Order}
-use Rattle.sheet.specs.Sections.{Reading, section, sectionSize, sectionBytes}
+use Rattle.sheet.specs.Sections.{Reading, section}
+use Rattle.wire.specs.Lists.{listSize, listBytes}
 
 -- Nothing may be left over (3), and this is asked last.
 abbrev pub ended : {A B : Type 0} → Reading A → B → Outcome B
@@ -22,7 +23,7 @@ orderIn lim s =
     andThen (section (lim .gate) s) (λ a. andThen (section (lim .own) (a .rest)) (λ b. ended b (order (a .value) (b .value))))
 
 unfoldable pub orderBytes : Order → List ℕ
-orderBytes o = sectionBytes (o .gate) ++ sectionBytes (o .own)
+orderBytes o = listBytes (o .gate) ++ listBytes (o .own)
 
 -- A list of A or of B by itself.
 unfoldable pub listIn : ℕ → List ℕ → Outcome (List Rule)
@@ -30,10 +31,10 @@ listIn most s = andThen (section most s) (λ a. ended a (a .value))
 
 -- The largest A list, B list and order sheet.
 abbrev pub gateSize : Limits → ℕ
-gateSize lim = sectionSize (lim .gate)
+gateSize lim = listSize (lim .gate)
 
 abbrev pub ownSize : Limits → ℕ
-ownSize lim = sectionSize (lim .own)
+ownSize lim = listSize (lim .own)
 
 abbrev pub orderSize : Limits → ℕ
 orderSize lim = gateSize lim + ownSize lim

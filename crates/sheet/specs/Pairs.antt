@@ -12,8 +12,9 @@ use Rattle.policy.specs.Refusals.{Outcome, accepted, test, andThen}
 use Rattle.policy.specs.Move.{Pair}
 use Rattle.wire.specs.Numbers.{numberBytes}
 use Rattle.wire.specs.Records.{boxesBytes, boxesIn}
-use Rattle.sheet.specs.Sections.{Reading, reading, countIn, section}
+use Rattle.sheet.specs.Sections.{Reading, reading, section}
 use Rattle.sheet.specs.Orders.{ended, order, orderBytes, orderSize}
+use Rattle.wire.specs.Lists.{countIn}
 
 -- The bytes that a group of n boxes takes, and the boxes of the group at the front of the bytes.
 abbrev pub groupSize : ℕ → ℕ

@@ -10,7 +10,7 @@ use Rattle.policy.specs.Rules.{Rule, denies}
 use Rattle.policy.specs.Refusals.{Outcome, accepted, refused, andThen, numberOf}
 use Rattle.policy.specs.Move.{Order, Pair, together}
 use Rattle.wire.specs.Records.{rulesIn}
-use Rattle.sheet.specs.Sections.{Reading, reading, countIn, sectionSize, section}
+use Rattle.sheet.specs.Sections.{Reading, reading, section}
 use Rattle.sheet.specs.Orders.{order, orderIn, listIn}
 use Rattle.sheet.specs.Pairs.{groupSize, groupBoxes, groupsIn, pairIn}
 use Rattle.sheet.specs.declared.Section.{Section}
@@ -22,6 +22,7 @@ use Rattle.sheet.specs.declared.Groups.the-variants as G
 use Rattle.sheet.specs.declared.OrderParts.{OrderParts}
 use Rattle.sheet.specs.declared.OrderParts.the-variants as O
 use Rattle.sheet.specs.declared.PairParts.{PairParts}
+use Rattle.wire.specs.Lists.{countIn, listSize}
 use Rattle.sheet.specs.declared.PairParts.the-variants as P
 
 -- The rules of the section that the bytes begin with.
@@ -34,7 +35,7 @@ sectionHeard s (S.Rules n next) = accepted (reading (rulesOf n s) (drop next s))
 sectionHeard s (S.Fault f) = refused (numberOf f)
 
 pub record SectionPlace (most : ℕ) (s : List ℕ) (n next : ℕ) : Type 0 where
-  pub end : next ≡ sectionSize n
+  pub end : next ≡ listSize n
   pub inside : next ≤ length s
   pub limit : n ≤ most
 
@@ -52,7 +53,7 @@ listHeard s (S.Rules n next) = accepted (rulesOf n s)
 listHeard s (S.Fault f) = refused (numberOf f)
 
 pub record ListPlace (most : ℕ) (s : List ℕ) (n next : ℕ) : Type 0 where
-  pub end : next ≡ sectionSize n
+  pub end : next ≡ listSize n
   pub whole : next ≡ length s
   pub limit : n ≤ most
 
@@ -79,8 +80,8 @@ listsHeard s (L.Parts n m middle third) = accepted (reading (listsOf n m middle 
 listsHeard s (L.Fault f) = refused (numberOf f)
 
 pub record ListsPlace (s : List ℕ) (n m middle third : ℕ) : Type 0 where
-  pub gateEnd : middle ≡ sectionSize n
-  pub ownEnd : third ≡ middle + sectionSize m
+  pub gateEnd : middle ≡ listSize n
+  pub ownEnd : third ≡ middle + listSize m
   pub inside : third ≤ length s
   pub gateLimit : n ≤ limits .gate
   pub ownLimit : m ≤ limits .own

@@ -17,7 +17,7 @@ ghost use Rattle.policy.specs.Ranges.{proper};
 ghost use Rattle.policy.specs.Rules.{sound, denies};
 ghost use Rattle.wire.specs.Records.{boxesIn};
 ghost use Rattle.wire.specs.Buffers.{filled};
-ghost use Rattle.sheet.specs.Sections.{sectionSize};
+ghost use Rattle.wire.specs.Lists.{listSize};
 ghost use Rattle.sheet.specs.Pairs.{groupSize};
 ghost use Rattle.sheet.specs.Readers.{rulesOf, SectionRead, ListRead, ListsRead, OrderRead, GroupsRead, PairRead};
 ghost use Rattle.sheet.specs.Split.{Split};
@@ -81,7 +81,7 @@ pub enum PairParts {
 }
 
 fn all_sound(s: &[u8], n: usize) -> bool
-    requires { ⌜ sectionSize n ≤ length (now s) ⌝ }
+    requires { ⌜ listSize n ≤ length (now s) ⌝ }
     ensures { λ r. ⌜ r ≡ every sound (rulesOf n (now (s .entry))) ⌝ }
 {
     let mut at = COUNT_BYTES;
@@ -114,7 +114,7 @@ fn all_proper(s: &[u8], n: usize) -> bool
 
 // The deny rules of the section of n rules that the bytes begin with.
 pub fn count_denies(s: &[u8], n: usize) -> usize
-    requires { ⌜ sectionSize n ≤ length (now s) ⌝ }
+    requires { ⌜ listSize n ≤ length (now s) ⌝ }
     ensures { λ r. ⌜ r ≡ denies (rulesOf n (now (s .entry))) ⌝ }
 {
     let mut count: usize = 0;

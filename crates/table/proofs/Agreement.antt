@@ -17,11 +17,12 @@ use Rattle.policy.proofs.Answers.{test-accepted}
 use Rattle.wire.specs.Numbers.{numberIn}
 use Rattle.wire.specs.Records.{rulesIn}
 use Rattle.wire.proofs.Records.{RuleFits, sound-fits, rulesIn-length}
-use Rattle.filter.specs.Lookup.{Hit, lookFrom, listBytes, listSize, lookup, refusalBase, lookupNumber}
+use Rattle.filter.specs.Lookup.{Hit, lookFrom, lookup, refusalBase, lookupNumber}
 use Rattle.filter.specs.Verdicts.{decidedBy}
 use Rattle.filter.proofs.Lists.{listBytes-length, count-back, list-back, look-first}
 use Rattle.filter.proofs.Verdicts.{Small, look-small, tells}
 use Rattle.table.specs.Table.{lookupTable, Storable, Agrees}
+use Rattle.wire.specs.Lists.{listBytes, listSize}
 
 -- From rules to bytes.
 rules-agree : (most : ℕ) (p : Packet) (l : List Rule) → Each RuleFits l → length l < 256 ^ countSize → lookup most p (listBytes l) ≡ lookupTable most p l

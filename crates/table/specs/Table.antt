@@ -14,7 +14,8 @@ use Rattle.policy.specs.Refusals.{Outcome, refused, test}
 use Rattle.policy.specs.declared.Rule.{Rule as RuleValue}
 use Rattle.wire.specs.Numbers.{numberIn}
 use Rattle.wire.specs.Records.{Fits, rulesIn}
-use Rattle.filter.specs.Lookup.{Hit, lookFrom, listBytes, listSize, lookup, lookupNumber}
+use Rattle.filter.specs.Lookup.{Hit, lookFrom, lookup, lookupNumber}
+use Rattle.wire.specs.Lists.{listBytes, listSize}
 
 -- The count is within its limits (2); then the rules, in the order and with the numbers that list bytes have.
 unfoldable pub lookupTable : ℕ → Packet → List Rule → Outcome Hit

@@ -1,4 +1,5 @@
 pub mod Numbers
 pub mod Records
+pub mod Lists
 pub mod Buffers
 pub mod RecordCalls
