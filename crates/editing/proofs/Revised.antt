@@ -33,7 +33,6 @@ use Rattle.sheet.specs.declared.OrderParts.the-variants.{Parts}
 use Rattle.sheet.proofs.Sections.{listBytes-length}
 use Rattle.sheet.proofs.Orders.{ListFits, faultless-fits, order-back}
 use Rattle.sheet.proofs.Accepted.{PairAccepted, OrderAccepted}
-use Rattle.draft.specs.Drafts.{draftSize}
 use Rattle.planner.specs.Calls.{lengthOf}
 use Rattle.planner.specs.Steps.{Writes, slotted, partOf, Finishing}
 use Rattle.planner.specs.Edits.{Asked, kindOf, editOf, wholeRecord, changeOf, editedOf}
@@ -292,10 +291,10 @@ module _ {s : List ℕ} {n m middle third boxes : ℕ} (a : PairAccepted s n m m
               go false = refl
               go true = refl
 
-          pub revised-finishing : {draft w : List ℕ} → pairSize limits ≤ length sheet → draftSize limits ≤ length draft → workSize limits ≤ length w
-              → OrderRead t (Parts n′ m′ middle′) → Finishing sheet used (third + countSize) t n′ m′ v′ draft w
-          revised-finishing {draft} {w} h k j r =
-              subst (λ (x : Around). Finishing sheet used (third + countSize) t n′ m′ x draft w) (sym same)
+          pub revised-finishing : {w : List ℕ} → pairSize limits ≤ length sheet → workSize limits ≤ length w
+              → OrderRead t (Parts n′ m′ middle′) → Finishing sheet used (third + countSize) t n′ m′ v′ w
+          revised-finishing {w} h j r =
+              subst (λ (x : Around). Finishing sheet used (third + countSize) t n′ m′ x w) (sym same)
               (record {
                 reads = rw (← middle-is) r;
                 held = rw (groups-are, all-groups) groups-held;
@@ -304,7 +303,6 @@ module _ {s : List ℕ} {n m middle third boxes : ℕ} (a : PairAccepted s n m m
                 start = start-inside;
                 end = inside;
                 sheetRoom = h;
-                room = k;
                 workRoom = j;
               })
 

@@ -1,7 +1,6 @@
 // Edit: a pair sheet changed at one place of A or of B. The new lists are written as an order sheet into a local buffer and
 // read there, and section C is drafted from kept groups and groups worked out anew, before anything lent is touched.
 use draft::Around;
-use draft::DRAFT_BYTES;
 use groups::WORK_BYTES;
 use planner::Change;
 use policy::Answer;
@@ -25,7 +24,6 @@ ghost use Rattle.wire.specs.Lists.{listSize};
 ghost use Rattle.sheet.specs.Pairs.{pairSize};
 ghost use Rattle.sheet.specs.Readers.{rulesOf, listsOf};
 ghost use Rattle.groups.specs.Worked.{workSize};
-ghost use Rattle.draft.specs.Drafts.{draftSize};
 ghost use Rattle.planner.specs.Edits.{wholeRecord, Edits};
 ghost use Rattle.editing.specs.Orders.{asked, takenBy, putBy, spliced, OrderChanged, ListsHeld};
 ghost use Rattle.editing.specs.Drafts.{Inside, aroundOf};
@@ -225,10 +223,9 @@ fn revise_with(
     change: Change,
     new: &[u8],
     order: &mut [u8],
-    draft: &mut [u8],
     work: &mut [u8],
 ) -> Answer
-    requires { ⌜ (pairSize limits ≤ length (now sheet)) × (used ≤ length (now sheet)) × (orderSize limits + recordSize ≤ length (now order)) × (draftSize limits ≤ length (now draft)) × (workSize limits ≤ length (now work)) ⌝ }
+    requires { ⌜ (pairSize limits ≤ length (now sheet)) × (used ≤ length (now sheet)) × (orderSize limits + recordSize ≤ length (now order)) × (workSize limits ≤ length (now work)) ⌝ }
     ensures { λ r. ⌜ Revised (now (sheet .entry)) used (asked list place change (now (new .entry))) (now (work .entry)) r (now (sheet .exit)) (now (work .exit)) ⌝ }
 {
     match sheet::read_pair(&sheet[..used]) {
@@ -277,7 +274,6 @@ fn revise_with(
                         renewed,
                         others,
                         around,
-                        draft,
                         work,
                     )
                 }
@@ -299,18 +295,7 @@ fn revise(
     ensures { λ r. ⌜ Revised (now (sheet .entry)) used (asked list place change (now (new .entry))) (now (work .entry)) r (now (sheet .exit)) (now (work .exit)) ⌝ }
 {
     let mut order = [0u8; EDIT_BYTES];
-    let mut draft = [0u8; DRAFT_BYTES];
-    revise_with(
-        sheet,
-        used,
-        list,
-        place,
-        change,
-        new,
-        &mut order,
-        &mut draft,
-        work,
-    )
+    revise_with(sheet, used, list, place, change, new, &mut order, work)
 }
 
 // Edit: a rule put in, taken out or replaced at a place of A (list 0) or B (list 1) of a pair sheet of a stated length; the

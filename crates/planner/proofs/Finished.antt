@@ -32,7 +32,7 @@ use Rattle.sheet.specs.Readers.{rulesOf, listsOf, groupsFrom}
 use Rattle.sheet.proofs.Outcomes.{faultless}
 use Rattle.sheet.proofs.Pairs.{ProperGroup, PairGood, denies-most}
 use Rattle.sheet.proofs.Accepted.{OrderAccepted, order-accepted}
-use Rattle.draft.specs.Drafts.{alone, stretch, Drafting}
+use Rattle.draft.specs.Drafts.{alone, stretch, Drafting, draftSize}
 use Rattle.draft.specs.Sheets.{Laid, sheetOf}
 use Rattle.draft.specs.declared.Drafted.the-variants as D
 use Rattle.draft.proofs.Drawn.{drawn-over, drawn-light, drawn-boxes, drawn-end, drawn-content}
@@ -67,7 +67,7 @@ stretch-proper i to rules h f =
     ap (drop (length (map boxesOf before))) m ∙ drop-at (map boxesOf before) _ (length (map boxesOf before)) refl in
     rw (rules-front i to rules h) at (each-imp (Each Proper) ProperGroup _ (λ g q. every-each (proper highest) g q) (rw d at p))
 
-module _ {sheet order draft w : List ℕ} {used from gate own : ℕ} {v : Around} (ready : Finishing sheet used from order gate own v draft w) (bytes : Each Byte order) where
+module _ {sheet order w : List ℕ} {used from gate own : ℕ} {v : Around} (ready : Finishing sheet used from order gate own v w) (bytes : Each Byte order) where
   a : OrderAccepted order gate own (listSize gate)
   a = order-accepted (ready .reads) bytes gate own (listSize gate) refl
 
@@ -89,8 +89,8 @@ module _ {sheet order draft w : List ℕ} {used from gate own : ℕ} {v : Around
   pub own-few : own ≤ limits .own
   own-few = a .place .ownLimit
 
-  pub finish-ready : (rules : List ℕ) → rules ≡ drop countSize order → AroundReady groups rules v draft w
-  finish-ready rules e =
+  pub finish-ready : (rules draft : List ℕ) → rules ≡ drop countSize order → draftSize limits ≤ length draft → AroundReady groups rules v draft w
+  finish-ready rules draft e roomy =
       let f = faultless (limits .gate) (rulesOf gate order) (a .gateFaultless) in
       let q = ready .placed in
       let g = a .place .gateLimit in
@@ -100,11 +100,11 @@ module _ {sheet order draft w : List ℕ} {used from gate own : ℕ} {v : Around
         placed = record { earlier = q .earlier; before = q .before; upTo = q .upTo; inGate = omega (arith, q .inGate); later = q .later; fits = q .fits };
         records = rw (e, length-drop) (omega (arith, q .inGate));
         rulesSound = rw e (rules-sound-front (v .to) gate (drop countSize order) (q .inGate) (f .sounds));
-        room = ready .room;
+        room = roomy;
         workRoom = ready .workRoom;
       }
 
-  module _ (rules : List ℕ) (is : rules ≡ drop countSize order) {draft′ w′ : List ℕ} where
+  module _ (rules : List ℕ) (is : rules ≡ drop countSize order) {draft draft′ w′ : List ℕ} where
     pub finish-six : (f : Refusal) → numberOf f ≡ 6 → DraftedAround groups rules v draft w D.TooManyPieces draft′ w′
         → Writes pairBytes (pairSize limits) (slotted o l) sheet w (Refused f) sheet w′
     unfolding slotted room work
@@ -130,7 +130,7 @@ module _ {sheet order draft w : List ℕ} {used from gate own : ℕ} {v : Around
           refuses pairBytes (pairSize limits) _ sheet w w′ TooManyBoxes (rw (light, lt-ltb _ _ t)) (x .beyond)
 
       -- within the total, the draft is section C of the new pair
-      module _ (h : b + own ≤ limits .total) where
+      module _ (h : b + own ≤ limits .total) (roomy : draftSize limits ≤ length draft) where
         none : room limits o l ≡ 0
         unfolding room work
         none =
@@ -164,10 +164,10 @@ module _ {sheet order draft w : List ℕ} {used from gate own : ℕ} {v : Around
         within = omega arith
 
         pub finish-end : end ≤ length draft
-        finish-end = drawn-end drafting within proper-all short (ready .room)
+        finish-end = drawn-end drafting within proper-all short (roomy)
 
         content : take end draft′ ≡ groupsBytes (p .groups)
-        content = drawn-content drafting within proper-all short (ready .room)
+        content = drawn-content drafting within proper-all short (roomy)
 
         module _ (n : ℕ) (count : n ≡ denies (rulesOf gate order)) where
           counted : n ≡ length (p .groups)

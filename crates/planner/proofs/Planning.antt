@@ -21,7 +21,6 @@ use Rattle.sheet.specs.Pairs.{groupsBytes, pairBytes, pairSize}
 use Rattle.sheet.specs.Readers.{listsOf, groupsFrom, OrderRead}
 use Rattle.sheet.specs.declared.OrderParts.the-variants.{Parts}
 use Rattle.sheet.proofs.Accepted.{OrderAccepted}
-use Rattle.draft.specs.Drafts.{draftSize}
 use Rattle.draft.specs.Arounds.{slotsAround}
 use Rattle.draft.specs.declared.Around.{Around}
 use Rattle.planner.specs.Calls.{planOf, moveOf}
@@ -45,10 +44,10 @@ module _ {s : List ℕ} {n m middle : ℕ} (a : OrderAccepted s n m middle) wher
   unfolding groupsFrom rulesIn allowsIn
   all-anew groups = append-none (slotsOf o)
 
-  pub plan-ready : {sheet draft w : List ℕ} (to : ℕ) → to ≡ n → OrderRead s (Parts n m middle) → pairSize limits ≤ length sheet → draftSize limits ≤ length draft → workSize limits ≤ length w
-      → Finishing sheet 0 0 s n m (fresh to) draft w
+  pub plan-ready : {sheet w : List ℕ} (to : ℕ) → to ≡ n → OrderRead s (Parts n m middle) → pairSize limits ≤ length sheet → workSize limits ≤ length w
+      → Finishing sheet 0 0 s n m (fresh to) w
   unfolding groupsFrom groupsBytes together Each
-  plan-ready {sheet} to e reads h k j = rw e (record {
+  plan-ready {sheet} to e reads h j = rw e (record {
     reads = rw (a .place .gateEnd) at reads;
     held = record { boxes = tt; bytes = refl; there = omega arith; few = omega arith };
     placed = record {
@@ -63,7 +62,6 @@ module _ {s : List ℕ} {n m middle : ℕ} (a : OrderAccepted s n m middle) wher
     start = omega arith;
     end = omega arith;
     sheetRoom = h;
-    room = k;
     workRoom = j;
   })
 

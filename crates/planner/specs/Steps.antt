@@ -12,7 +12,6 @@ use Rattle.groups.specs.Worked.{workSize}
 use Rattle.sheet.specs.Pairs.{pairBytes, pairSize}
 use Rattle.sheet.specs.Readers.{rulesOf, OrderRead}
 use Rattle.sheet.specs.declared.OrderParts.the-variants.{Parts}
-use Rattle.draft.specs.Drafts.{draftSize}
 use Rattle.draft.specs.Arounds.{GroupsHeld, slotsAround, Placed}
 use Rattle.draft.specs.declared.Around.{Around}
 use Rattle.planner.specs.Calls.{moveOf, written, lengthOf}
@@ -37,7 +36,7 @@ abbrev pub partOf : ℕ → ℕ → List ℕ → List ℕ
 partOf from to s = take (to - from) (drop from s)
 
 -- What the last step asks for: the new order sheet reads well, and the old groups stand in the sheet from `from` up to `used`.
-pub record Finishing (sheet : List ℕ) (used from : ℕ) (order : List ℕ) (gate own : ℕ) (v : Around) (draft work : List ℕ) : Type 0 where
+pub record Finishing (sheet : List ℕ) (used from : ℕ) (order : List ℕ) (gate own : ℕ) (v : Around) (work : List ℕ) : Type 0 where
   pub reads : OrderRead order (Parts gate own (listSize gate))
   pub held : GroupsHeld (partOf from used sheet) (v .groups)
   pub placed : Placed v gate
@@ -45,5 +44,4 @@ pub record Finishing (sheet : List ℕ) (used from : ℕ) (order : List ℕ) (ga
   pub start : from ≤ used
   pub end : used ≤ length sheet
   pub sheetRoom : pairSize limits ≤ length sheet
-  pub room : draftSize limits ≤ length draft
   pub workRoom : workSize limits ≤ length work

@@ -29,9 +29,9 @@ pub enum Change {
     Replace,
 }
 
-// The last step: the groups of the new lists drafted, those that are kept from the sheet's bytes from `from` up to `used`, and
-// the pair sheet written if there is room for them.
-pub fn finish(
+// The groups of the new lists drafted, those that are kept from the sheet's bytes from `from` up to `used`, and the pair sheet
+// written if there is room for them.
+fn finish_with(
     sheet: &mut [u8],
     used: usize,
     from: usize,
@@ -42,7 +42,7 @@ pub fn finish(
     draft: &mut [u8],
     work: &mut [u8],
 ) -> Answer
-    requires { ⌜ Finishing (now sheet) used from (now order) gate own around (now draft) (now work) ⌝ }
+    requires { ⌜ Finishing (now sheet) used from (now order) gate own around (now work) × (draftSize limits ≤ length (now draft)) ⌝ }
     ensures { λ r. ⌜ Writes pairBytes (pairSize limits) (slotted (listsOf gate own (listSize gate) (now (order .entry))) (slotsAround around (partOf from used (now (sheet .entry))) (drop countSize (now (order .entry))))) (now (sheet .entry)) (now (work .entry)) r (now (sheet .exit)) (now (work .exit)) ⌝ }
 {
     match draft::kept::draft_around(
@@ -63,9 +63,37 @@ pub fn finish(
     }
 }
 
+// The last step of a move and of an edit. The draft is its own, so that a copy from it and to it cannot meet anything lent.
+pub fn finish(
+    sheet: &mut [u8],
+    used: usize,
+    from: usize,
+    order: &[u8],
+    gate: usize,
+    own: usize,
+    around: Around,
+    work: &mut [u8],
+) -> Answer
+    requires { ⌜ Finishing (now sheet) used from (now order) gate own around (now work) ⌝ }
+    ensures { λ r. ⌜ Writes pairBytes (pairSize limits) (slotted (listsOf gate own (listSize gate) (now (order .entry))) (slotsAround around (partOf from used (now (sheet .entry))) (drop countSize (now (order .entry))))) (now (sheet .entry)) (now (work .entry)) r (now (sheet .exit)) (now (work .exit)) ⌝ }
+{
+    let mut draft = [0u8; DRAFT_BYTES];
+    finish_with(
+        sheet,
+        used,
+        from,
+        order,
+        gate,
+        own,
+        around,
+        &mut draft,
+        work,
+    )
+}
+
 // The order sheet read, and every group worked out anew.
-fn plan_with(order: &[u8], sheet: &mut [u8], draft: &mut [u8], work: &mut [u8]) -> Answer
-    requires { ⌜ (pairSize limits ≤ length (now sheet)) × (draftSize limits ≤ length (now draft)) × (workSize limits ≤ length (now work)) ⌝ }
+fn plan(order: &[u8], sheet: &mut [u8], work: &mut [u8]) -> Answer
+    requires { ⌜ (pairSize limits ≤ length (now sheet)) × (workSize limits ≤ length (now work)) ⌝ }
     ensures { λ r. ⌜ Planned (now (order .entry)) (now (sheet .entry)) (now (work .entry)) r (now (sheet .exit)) (now (work .exit)) ⌝ }
 {
     match sheet::read_order(order) {
@@ -82,17 +110,9 @@ fn plan_with(order: &[u8], sheet: &mut [u8], draft: &mut [u8], work: &mut [u8]) 
                 place: 0,
                 to: gate,
             };
-            finish(sheet, 0, 0, order, gate, own, around, draft, work)
+            finish(sheet, 0, 0, order, gate, own, around, work)
         }
     }
-}
-
-fn plan(order: &[u8], sheet: &mut [u8], work: &mut [u8]) -> Answer
-    requires { ⌜ (pairSize limits ≤ length (now sheet)) × (workSize limits ≤ length (now work)) ⌝ }
-    ensures { λ r. ⌜ Planned (now (order .entry)) (now (sheet .entry)) (now (work .entry)) r (now (sheet .exit)) (now (work .exit)) ⌝ }
-{
-    let mut draft = [0u8; DRAFT_BYTES];
-    plan_with(order, sheet, &mut draft, work)
 }
 
 // Move: an order sheet in, its pair sheet out; the answer is the pair sheet's length.

@@ -24,35 +24,35 @@ use Rattle.editing.proofs.revise_with.Tie as tie
 -- what is known once the pair sheet is read well
 module _ (c : tie.After-gate) where
   abbrev s : List ℕ
-  s = take (c .before .before .before .before .before .before .before .before .before .args .used) (c .before .before .before .before .before .before .before .before .before .args .sheet .now)
+  s = take (c .before .before .before .before .before .before .before .before .args .used) (c .before .before .before .before .before .before .before .before .args .sheet .now)
 
   abbrev q : Asked
-  q = asked (c .before .before .before .before .before .before .before .before .before .args .list) (c .before .before .before .before .before .before .before .before .before .args .place) (c .before .before .before .before .before .before .before .before .before .args .change) (c .before .before .before .before .before .before .before .before .before .args .new .now)
+  q = asked (c .before .before .before .before .before .before .before .before .args .list) (c .before .before .before .before .before .before .before .before .args .place) (c .before .before .before .before .before .before .before .before .args .change) (c .before .before .before .before .before .before .before .before .args .new .now)
 
   read : PairAccepted s (c .gate .given .0 .0) (c .gate .given .0 .1 .0) (c .gate .given .0 .1 .1 .0) (c .gate .given .0 .1 .1 .1 .0) (c .gate .given .0 .1 .1 .1 .1 .0)
   read =
-      let bytes = bytes-all (c .before .before .before .before .before .before .before .before .before .args .sheet .now) (λ i. omega (arith, c .before .before .before .before .before .before .before .before .slice-known .given i)) in
-      pair-accepted (c .before .before .read-pair .ensures) (bytes-take (c .before .before .before .before .before .before .before .before .before .args .used) (c .before .before .before .before .before .before .before .before .before .args .sheet .now) bytes) _ _ _ _ _ (c .gate .given .1)
+      let bytes = bytes-all (c .before .before .before .before .before .before .before .before .args .sheet .now) (λ i. omega (arith, c .before .before .before .before .before .before .before .slice-known .given i)) in
+      pair-accepted (c .before .before .read-pair .ensures) (bytes-take (c .before .before .before .before .before .before .before .before .args .used) (c .before .before .before .before .before .before .before .before .args .sheet .now) bytes) _ _ _ _ _ (c .gate .given .1)
 
-  new : Each Byte (c .before .before .before .before .before .before .before .before .before .args .new .now)
-  new = bytes-all (c .before .before .before .before .before .before .before .before .before .args .new .now) (λ i. omega (arith, c .before .before .before .before .before .before .before .shared-slice-known .given i))
+  new : Each Byte (c .before .before .before .before .before .before .before .before .args .new .now)
+  new = bytes-all (c .before .before .before .before .before .before .before .before .args .new .now) (λ i. omega (arith, c .before .before .before .before .before .before .shared-slice-known .given i))
 
 -- once the new order sheet is made
 module _ (c : tie.After-end) where
   abbrev last : List ℕ
   last = c .before .before .before .before .change-order .last .1 .1 .1 .1 .1 .1 .1 .1 .1 .0
 
-  changed : OrderChanged (q (c .before .before .before .before .before .before .before .before)) (listsOf (c .before .before .before .before .before .before .before .before .gate .given .0 .0) (c .before .before .before .before .before .before .before .before .gate .given .0 .1 .0) (c .before .before .before .before .before .before .before .before .gate .given .0 .1 .1 .0) (s (c .before .before .before .before .before .before .before .before))) (c .before .before .before .before .before .before .before .before .before .before .before .before .before .before .before .before .before .args .order .now) (Length (c .end .given .0 .0)) last
+  changed : OrderChanged (q (c .before .before .before .before .before .before .before .before)) (listsOf (c .before .before .before .before .before .before .before .before .gate .given .0 .0) (c .before .before .before .before .before .before .before .before .gate .given .0 .1 .0) (c .before .before .before .before .before .before .before .before .gate .given .0 .1 .1 .0) (s (c .before .before .before .before .before .before .before .before))) (c .before .before .before .before .before .before .before .before .before .before .before .before .before .before .before .before .args .order .now) (Length (c .end .given .0 .0)) last
   changed = rw (c .end .given .1) at (c .before .before .before .before .change-order .ensures)
 
-  inside : c .end .given .0 .0 ≤ length (c .before .before .before .before .before .before .before .before .before .before .before .before .before .before .before .before .before .args .order .now)
-  inside = revised-end (read (c .before .before .before .before .before .before .before .before)) (q (c .before .before .before .before .before .before .before .before)) (new (c .before .before .before .before .before .before .before .before)) changed (c .before .before .before .before .before .before .before .before .before .before .before .before .before .before .before .before .before .pre .2)
+  inside : c .end .given .0 .0 ≤ length (c .before .before .before .before .before .before .before .before .before .before .before .before .before .before .before .before .args .order .now)
+  inside = revised-end (read (c .before .before .before .before .before .before .before .before)) (q (c .before .before .before .before .before .before .before .before)) (new (c .before .before .before .before .before .before .before .before)) changed (c .before .before .before .before .before .before .before .before .before .before .before .before .before .before .before .before .pre .2)
 
 -- once that is read well
 module _ (c : tie.After-renewed) where
   renewed : OrderAccepted (take (c .before .before .before .before .before .end .given .0 .0) (last (c .before .before .before .before .before))) (c .renewed .given .0 .0) (c .renewed .given .0 .1 .0) (c .renewed .given .0 .1 .1 .0)
   renewed =
-      let bytes = bytes-all (last (c .before .before .before .before .before)) (λ i. omega (arith, c .before .before .before .before .before .before .before .slice-known5 .given i)) in
+      let bytes = bytes-all (last (c .before .before .before .before .before)) (λ i. omega (arith, c .before .before .before .before .before .before .before .slice-known4 .given i)) in
       order-accepted (c .before .before .read-order .ensures) (bytes-take (c .before .before .before .before .before .end .given .0 .0) (last (c .before .before .before .before .before)) bytes) _ _ _ (c .renewed .given .1)
 
 slice-reshare-prefix-read-pair : tie.Need-slice-reshare-prefix-read-pair
@@ -116,12 +116,12 @@ places-requires : tie.Need-places-requires
 places-requires c κs =
     let g = c .before .before .before .before .before .before .before .before .before .before .before .before .before .before .before .before in
     let f = renewed (c .before .before .before) in
-    (gate-inside (read g), order-inside f, revised-inside (read g) (q g) (new g) (changed (c .before .before .before .before .before .before .before .before)) (g .before .before .before .before .before .before .before .before .before .pre .2) f)
+    (gate-inside (read g), order-inside f, revised-inside (read g) (q g) (new g) (changed (c .before .before .before .before .before .before .before .before)) (g .before .before .before .before .before .before .before .before .pre .2) f)
 
 add-from : tie.Need-add-from
 add-from c =
     let g = c .before .before .before .before .before .before .before .before .before .before .before .before .before .before .before .before .before in
-    omega (arith, third-inside (read g), length-take-le (g .before .before .before .before .before .before .before .before .before .args .used) (g .before .before .before .before .before .before .before .before .before .args .sheet .now) (g .before .before .before .before .before .before .before .before .before .pre .1))
+    omega (arith, third-inside (read g), length-take-le (g .before .before .before .before .before .before .before .before .args .used) (g .before .before .before .before .before .before .before .before .args .sheet .now) (g .before .before .before .before .before .before .before .before .pre .1))
 
 slice-reshare-prefix-finish : tie.Need-slice-reshare-prefix-finish
 slice-reshare-prefix-finish c = let e = inside (c .before .before .before .before .before .before .before .before .before .before) in omega arith
@@ -131,17 +131,17 @@ slice-aggregate-finish c = let e = inside (c .before .before .before .before .be
 
 finish-requires : tie.Need-finish-requires
 finish-requires c κs =
-    let g = c .before .before .before .before .before .before .before .before .before .before .before .before .before .before .before .before .before .before .before .before .before in
-    let arg = g .before .before .before .before .before .before .before .before .before .args in
-    let pre = g .before .before .before .before .before .before .before .before .before .pre in
-    revised-finishing (read g) (q g) (new g) (changed (c .before .before .before .before .before .before .before .before .before .before .before .before .before)) (pre .2) (renewed (c .before .before .before .before .before .before .before .before)) (arg .sheet .now) (arg .used) refl (pre .1) _ (c .before .before .before .before .places .ensures) (pre .0) (pre .3) (pre .4) (rw (c .before .before .before .before .before .before .before .before .renewed .given .1) at (c .before .before .before .before .before .before .before .before .before .before .read-order .ensures))
+    let g = c .before .before .before .before .before .before .before .before .before .before .before .before .before .before .before .before .before .before .before .before in
+    let arg = g .before .before .before .before .before .before .before .before .args in
+    let pre = g .before .before .before .before .before .before .before .before .pre in
+    revised-finishing (read g) (q g) (new g) (changed (c .before .before .before .before .before .before .before .before .before .before .before .before)) (pre .2) (renewed (c .before .before .before .before .before .before .before)) (arg .sheet .now) (arg .used) refl (pre .1) _ (c .before .before .before .places .ensures) (pre .0) (pre .3) (rw (c .before .before .before .before .before .before .before .renewed .given .1) at (c .before .before .before .before .before .before .before .before .before .read-order .ensures))
 
 same-length : tie.Need-same-length
 same-length c = search needs
 
 returns : tie.Need-returns
 returns c =
-    let arg = c .before .before .before .before .before .before .before .before .before .before .args in
+    let arg = c .before .before .before .before .before .before .before .before .before .args in
     refuses pairBytes (pairSize limits) _ (arg .sheet .now) (arg .work .now) (arg .work .now) _ (pair-faulty _ _ _ (pair-refused (c .before .before .before .read-pair .ensures) _ (c .before .f .given .1))) refl
 
 same-length-2 : tie.Need-same-length-2
@@ -153,7 +153,7 @@ same-length-3 c = search needs
 returns-2 : tie.Need-returns-2
 returns-2 c =
     let g = c .before .before .before .before .before .before .before .before .before in
-    let arg = g .before .before .before .before .before .before .before .before .before .args in
+    let arg = g .before .before .before .before .before .before .before .before .args in
     let x = rw (c .before .f2 .given .1) at (c .before .before .before .before .before .change-order .ensures) in
     refuses pairBytes (pairSize limits) _ (arg .sheet .now) (arg .work .now) (arg .work .now) _ (revised-refused (read g) (q g) (new g) (c .before .f2 .given .0 .0) x) refl
 
@@ -166,9 +166,9 @@ same-length-5 c = search needs
 returns-3 : tie.Need-returns-3
 returns-3 c =
     let g = c .before .before .before .before .before .before .before .before .before .before .before .before .before .before in
-    let arg = g .before .before .before .before .before .before .before .before .before .args in
+    let arg = g .before .before .before .before .before .before .before .before .args in
     let fault = order-refused (c .before .before .before .read-order .ensures) (c .before .f3 .given .0 .0) (c .before .f3 .given .1) in
-    refuses pairBytes (pairSize limits) _ (arg .sheet .now) (arg .work .now) (arg .work .now) _ (revised-faulty (read g) (q g) (new g) (changed (c .before .before .before .before .before .before)) (g .before .before .before .before .before .before .before .before .before .pre .2) (c .before .f3 .given .0 .0) fault) refl
+    refuses pairBytes (pairSize limits) _ (arg .sheet .now) (arg .work .now) (arg .work .now) _ (revised-faulty (read g) (q g) (new g) (changed (c .before .before .before .before .before .before)) (g .before .before .before .before .before .before .before .before .pre .2) (c .before .f3 .given .0 .0) fault) refl
 
 same-length-6 : tie.Need-same-length-6
 same-length-6 c = search needs
@@ -179,14 +179,11 @@ same-length-7 c = search needs
 same-length-8 : tie.Need-same-length-8
 same-length-8 c = search needs
 
-same-length-9 : tie.Need-same-length-9
-same-length-9 c = search needs
-
 returns-4 : tie.Need-returns-4
 returns-4 c =
-    let g = c .before .before .before .before .before .before .before .before .before .before .before .before .before .before .before .before .before .before .before .before .before .before .before .before .before .before .before .before in
-    let arg = g .before .before .before .before .before .before .before .before .before .args in
-    revised-done (read g) (q g) (new g) (changed (c .before .before .before .before .before .before .before .before .before .before .before .before .before .before .before .before .before .before .before .before)) (g .before .before .before .before .before .before .before .before .before .pre .2) (renewed (c .before .before .before .before .before .before .before .before .before .before .before .before .before .before .before)) (arg .sheet .now) (arg .used) refl (g .before .before .before .before .before .before .before .before .before .pre .1) _ (c .before .before .before .before .before .before .before .before .before .before .before .places .ensures) (c .before .before .before .before .before .before .finish .ensures)
+    let g = c .before .before .before .before .before .before .before .before .before .before .before .before .before .before .before .before .before .before .before .before .before .before .before .before .before in
+    let arg = g .before .before .before .before .before .before .before .before .args in
+    revised-done (read g) (q g) (new g) (changed (c .before .before .before .before .before .before .before .before .before .before .before .before .before .before .before .before .before)) (g .before .before .before .before .before .before .before .before .pre .2) (renewed (c .before .before .before .before .before .before .before .before .before .before .before .before)) (arg .sheet .now) (arg .used) refl (g .before .before .before .before .before .before .before .before .pre .1) _ (c .before .before .before .before .before .before .before .before .places .ensures) (c .before .before .before .before .finish .ensures)
 
 pub revise-with-spec : {M : Type 1} → statement M
 revise-with-spec =
@@ -227,5 +224,4 @@ revise-with-spec =
     same-length-6
     same-length-7
     same-length-8
-    same-length-9
     returns-4)
