@@ -53,14 +53,15 @@ fn step(input: &Input, what: &str, list: u32, place: usize, change: Change) -> S
     Step { name: format!("{name} {what}"), list, place, change, record: put.map_or(vec![], |r| record_of(&r)), before, after }
 }
 
-// The last deny, whose own group is the dearest; the first own rule; and the first allow, behind which every group is worked out
-// anew.
+// The deny in the middle of the denies; the last one, whose own group is the dearest; the first own rule; and the first allow,
+// behind which every group is worked out anew.
 fn steps(input: &Input) -> Vec<Step> {
     let changes = [Change::Insert, Change::Delete, Change::Replace];
     let gate = &input.gate;
-    let deny = gate[..gate.len() - 1].iter().rposition(|r| r.action == DENY).unwrap();
+    let denies: Vec<usize> = (0..gate.len() - 1).filter(|i| gate[*i].action == DENY).collect();
+    let (middle, last) = (denies[denies.len() / 2], denies[denies.len() - 1]);
     let allow = gate.iter().position(|r| r.action == ALLOW).unwrap();
-    let kinds = [("the last deny", 0, deny), ("an own rule", 1, 0), ("the first allow", 0, allow)];
+    let kinds = [("a middle deny", 0, middle), ("the last deny", 0, last), ("an own rule", 1, 0), ("the first allow", 0, allow)];
     kinds.iter().flat_map(|(what, list, place)| changes.map(|change| step(input, what, *list, *place, change))).collect()
 }
 

@@ -1,6 +1,6 @@
 #!/bin/sh
 # Builds the static library and tests it from outside: the C surface as C11 and as C++, then the driver of the second program,
-# which holds every call against the model. Prints a line for each, and fails with the first that fails.
+# which holds every call against the model, with the desk example between them. Prints a line for each, and fails with the first that fails.
 set -eu
 cd "$(dirname "$0")/.."
 library=target/staticlib/libfoldplover.a
@@ -11,6 +11,12 @@ gcc -std=c11 $flags -o target/surface tests/c/surface.c $library
 target/surface
 g++ -std=c++17 $flags -o target/surface++ -x c++ tests/c/surface.c -x none $library
 target/surface++
+
+gcc -std=c11 $flags -o target/desk examples/desk.c $library
+for name in dairy plant refused; do
+    target/desk examples/$name.order target/$name.gate target/$name.cell || true
+done >target/desk.txt
+printf 'gate 29 bytes, cell 137 bytes\ngate 29 bytes, cell 9425 bytes\nrefused 6\n' | cmp - target/desk.txt
 
 rustc -O --edition 2021 --cfg library -L native=target/staticlib -o target/drive tests/second/main.rs
 target/drive drive 20000 1 >target/drive.txt 2>target/drive.log || { cut -c 1-400 target/drive.txt | tail -n 20; exit 1; }
