@@ -61,7 +61,8 @@ fn steps(input: &Input) -> Vec<Step> {
     let denies: Vec<usize> = (0..gate.len() - 1).filter(|i| gate[*i].action == DENY).collect();
     let (middle, last) = (denies[denies.len() / 2], denies[denies.len() - 1]);
     let allow = gate.iter().position(|r| r.action == ALLOW).unwrap();
-    let kinds = [("a middle deny", 0, middle), ("the last deny", 0, last), ("an own rule", 1, 0), ("the first allow", 0, allow)];
+    let kinds =
+        [("a middle deny", 0, middle), ("the last deny", 0, last), ("an own rule", 1, 0), ("the first allow", 0, allow)];
     kinds.iter().flat_map(|(what, list, place)| changes.map(|change| step(input, what, *list, *place, change))).collect()
 }
 

@@ -1,7 +1,7 @@
 -- What a caller knows once a reader has accepted: the lists and groups, and that the bytes are exactly theirs.
 -- Assumes nothing.
 use mathlib.Core.Path.{_≡_, ap, sym, _∙_}
-use mathlib.Core.List.{List, _++_, append-assoc}
+use mathlib.Core.List.{List, _++_}
 use Prim.Native.Nat.{ℕ, _+_, _<_}
 use native.Mathlib.Omega.{arith}
 use lib.ListN.{length, take, drop, length-append}
@@ -10,7 +10,6 @@ use Rattle.lists.specs.Lists.{Each}
 use Rattle.policy.specs.Fields.{countSize, limits}
 use Rattle.policy.specs.Refusals.{accepted, refused, numberOf}
 use Rattle.policy.specs.Move.{Order, Pair, listRefusal}
-use Rattle.policy.specs.Rules.{denies}
 use Rattle.policy.specs.declared.Refusal.{Refusal}
 use Rattle.wire.specs.Numbers.{numberBytes, Byte}
 use Rattle.wire.proofs.Numbers.{numberBytes-length}
@@ -97,11 +96,7 @@ pair-refused {s} x f e = sym (x .says) ∙ ap (pairHeard s) e
 pub record PairAccepted (s : List ℕ) (n m middle third boxes : ℕ) : Type 0 where
   pub reads : pairIn limits s ≡ accepted (pairOf n m middle third s)
   pub good : PairGood limits (pairOf n m middle third s)
-  pub bytes : pairBytes (pairOf n m middle third s) ≡ s
-  pub gateBytes : listBytes (rulesOf n s) ≡ take middle s
-  pub ownBytes : listBytes (rulesOf m (drop middle s)) ≡ take (listSize m) (drop middle s)
   pub listsBytes : orderBytes (listsOf n m middle s) ≡ take third s
-  pub countBytes : numberBytes countSize (denies (rulesOf n s)) ≡ take countSize (drop third s)
   pub groupBytes : groupsBytes (pairOf n m middle third s .groups) ≡ drop (third + countSize) s
   pub place : PairPlace s n m middle third boxes
 
@@ -123,18 +118,10 @@ pair-accepted {s} x b n m middle third boxes e =
     let lo : length own ≡ listSize m = section-end (limits .own) m (drop middle s) (omega arith) (g .own) in
     let lt : length (gate ++ own) ≡ third = rw (length-append, lg, lo) (sym (w .lists .ownEnd)) in
     let behind : head ++ rest ≡ drop third s = sym (ap (drop third) (sym k) ∙ drop-at (gate ++ own) (head ++ rest) third lt) in
-    let whole : gate ++ (own ++ (head ++ rest)) ≡ s = sym (append-assoc gate own (head ++ rest)) ∙ k in
-    let from : own ++ (head ++ rest) ≡ drop middle s = sym (ap (drop middle) (sym whole) ∙ drop-at gate (own ++ (head ++ rest)) middle lg) in
-    let c : head ≡ take countSize (drop third s) =
-    sym (ap (take countSize) (sym behind) ∙ take-at head rest countSize (numberBytes-length countSize (length (p .groups)))) in
     record {
       reads = q;
       good = g;
-      bytes = k;
-      gateBytes = sym (ap (take middle) (sym whole) ∙ take-at gate (own ++ (head ++ rest)) middle lg);
-      ownBytes = sym (ap (take (listSize m)) (sym from) ∙ take-at own (head ++ rest) (listSize m) lo);
       listsBytes = sym (ap (take third) (sym k) ∙ take-at (gate ++ own) (head ++ rest) third lt);
-      countBytes = ap (numberBytes countSize) (sym (g .counted)) ∙ c;
       groupBytes =
           sym (sym (drop-drop countSize third s)
           ∙ (ap (drop countSize) (sym behind) ∙ drop-at head rest countSize (numberBytes-length countSize (length (p .groups)))));

@@ -218,10 +218,6 @@ pub boxes-written-back : (n : ℕ) (s : List ℕ) → boxSize * n ≤ length s �
 unfolding boxItems
 boxes-written-back = items-written-back boxItems
 
-pub boxes-from : (i n : ℕ) (s : List ℕ) → drop i (boxesIn n s) ≡ boxesIn (n - i) (drop (boxSize * i) s)
-unfolding boxItems
-boxes-from = items-from boxItems
-
 pub box-in-place : (i n : ℕ) (s : List ℕ) (d : Region) → i < n → getD (boxesIn n s) i d ≡ boxIn (drop (boxSize * i) s)
 unfolding boxItems
 box-in-place = item-at boxItems
