@@ -32,6 +32,13 @@ ghost use Rattle.editing.specs.Edits.{Revised};
 // The largest order sheet, and a record more: a new count is tested once it is written.
 const EDIT_BYTES: usize = ORDER_BYTES + RECORD_BYTES;
 
+// Where a sheet is edited, and what is done there: in A (list 0) or in B (list 1), at a place from 0.
+struct Site {
+    list: u32,
+    place: usize,
+    change: Change,
+}
+
 // How many rules a change takes out at its place, and how many it puts in.
 fn taken_by(change: Change) -> usize
     ensures { λ r. ⌜ (r ≡ takenBy change) × (r ≤ 1) ⌝ }
@@ -101,15 +108,16 @@ fn change_order(
     own: usize,
     middle: usize,
     third: usize,
-    list: u32,
-    place: usize,
-    change: Change,
+    site: Site,
     new: &[u8],
     order: &mut [u8],
 ) -> Answer
     requires { ⌜ (ListsHeld (now pair) gate own middle third) × (orderSize limits + recordSize ≤ length (now order)) ⌝ }
-    ensures { λ r. ⌜ OrderChanged (asked list place change (now (new .entry))) (listsOf gate own middle (now (pair .entry))) (now (order .entry)) r (now (order .exit)) ⌝ }
+    ensures { λ r. ⌜ OrderChanged (asked (site .list) (site .place) (site .change) (now (new .entry))) (listsOf gate own middle (now (pair .entry))) (now (order .entry)) r (now (order .exit)) ⌝ }
 {
+    let list = site.list;
+    let place = site.place;
+    let change = site.change;
     if 1 < list {
         return Answer::Refused(Refusal::NoPlace);
     }
@@ -189,20 +197,13 @@ fn gate_places(
 }
 
 // Where the groups of the new A come from; an edit of B keeps them all.
-fn places(
-    pair: &[u8],
-    gate: usize,
-    list: u32,
-    place: usize,
-    change: Change,
-    order: &[u8],
-    renewed: usize,
-) -> Around
-    requires { ⌜ (listSize gate ≤ length (now pair)) × (listSize renewed ≤ length (now order)) × (Inside (eqb list 0) place change gate renewed) ⌝ }
-    ensures { λ r. ⌜ r ≡ aroundOf (eqb list 0) place change (rulesOf gate (now (pair .entry))) (rulesOf renewed (now (order .entry))) ⌝ }
+fn places(pair: &[u8], gate: usize, site: Site, order: &[u8], renewed: usize) -> Around
+    requires { ⌜ (listSize gate ≤ length (now pair)) × (listSize renewed ≤ length (now order)) × (Inside (eqb (site .list) 0) (site .place) (site .change) gate renewed) ⌝ }
+    ensures { λ r. ⌜ r ≡ aroundOf (eqb (site .list) 0) (site .place) (site .change) (rulesOf gate (now (pair .entry))) (rulesOf renewed (now (order .entry))) ⌝ }
 {
-    if list == 0 {
-        return gate_places(pair, gate, place, change, order, renewed);
+    if site.list == 0 {
+        let change = site.change;
+        return gate_places(pair, gate, site.place, change, order, renewed);
     }
     let groups = sheet::count_denies(pair, gate);
     Around {
@@ -218,15 +219,13 @@ fn places(
 fn revise_with(
     sheet: &mut [u8],
     used: usize,
-    list: u32,
-    place: usize,
-    change: Change,
+    site: Site,
     new: &[u8],
     order: &mut [u8],
     work: &mut [u8],
 ) -> Answer
     requires { ⌜ (pairSize limits ≤ length (now sheet)) × (used ≤ length (now sheet)) × (orderSize limits + recordSize ≤ length (now order)) × (workSize limits ≤ length (now work)) ⌝ }
-    ensures { λ r. ⌜ Revised (now (sheet .entry)) used (asked list place change (now (new .entry))) (now (work .entry)) r (now (sheet .exit)) (now (work .exit)) ⌝ }
+    ensures { λ r. ⌜ Revised (now (sheet .entry)) used (asked (site .list) (site .place) (site .change) (now (new .entry))) (now (work .entry)) r (now (sheet .exit)) (now (work .exit)) ⌝ }
 {
     match sheet::read_pair(&sheet[..used]) {
         PairParts::Fault(f) => Answer::Refused(f),
@@ -236,18 +235,7 @@ fn revise_with(
             middle,
             third,
             boxes: _,
-        } => match change_order(
-            &sheet[..used],
-            gate,
-            own,
-            middle,
-            third,
-            list,
-            place,
-            change,
-            new,
-            order,
-        ) {
+        } => match change_order(&sheet[..used], gate, own, middle, third, site, new, order) {
             Answer::Refused(f) => Answer::Refused(f),
             Answer::Length(end) => match sheet::read_order(&order[..end]) {
                 OrderParts::Fault(f) => Answer::Refused(f),
@@ -256,15 +244,7 @@ fn revise_with(
                     own: others,
                     middle: _,
                 } => {
-                    let around = places(
-                        &sheet[..used],
-                        gate,
-                        list,
-                        place,
-                        change,
-                        &order[..end],
-                        renewed,
-                    );
+                    let around = places(&sheet[..used], gate, site, &order[..end], renewed);
                     let from = third + COUNT_BYTES;
                     planner::finish(
                         sheet,
@@ -282,20 +262,12 @@ fn revise_with(
     }
 }
 
-fn revise(
-    sheet: &mut [u8],
-    used: usize,
-    list: u32,
-    place: usize,
-    change: Change,
-    new: &[u8],
-    work: &mut [u8],
-) -> Answer
+fn revise(sheet: &mut [u8], used: usize, site: Site, new: &[u8], work: &mut [u8]) -> Answer
     requires { ⌜ (pairSize limits ≤ length (now sheet)) × (used ≤ length (now sheet)) × (workSize limits ≤ length (now work)) ⌝ }
-    ensures { λ r. ⌜ Revised (now (sheet .entry)) used (asked list place change (now (new .entry))) (now (work .entry)) r (now (sheet .exit)) (now (work .exit)) ⌝ }
+    ensures { λ r. ⌜ Revised (now (sheet .entry)) used (asked (site .list) (site .place) (site .change) (now (new .entry))) (now (work .entry)) r (now (sheet .exit)) (now (work .exit)) ⌝ }
 {
     let mut order = [0u8; EDIT_BYTES];
-    revise_with(sheet, used, list, place, change, new, &mut order, work)
+    revise_with(sheet, used, site, new, &mut order, work)
 }
 
 // Edit: a rule put in, taken out or replaced at a place of A (list 0) or B (list 1) of a pair sheet of a stated length; the
@@ -320,7 +292,12 @@ pub fn edit(
     if work.len() < WORK_BYTES {
         return Answer::Refused(Refusal::BufferShort);
     }
-    let answer = revise(sheet, used, list, place, change, new, work);
+    let site = Site {
+        list,
+        place,
+        change,
+    };
+    let answer = revise(sheet, used, site, new, work);
     wire::zero(work, 0, WORK_BYTES);
     answer
 }

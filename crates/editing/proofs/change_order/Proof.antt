@@ -14,7 +14,7 @@ use Rattle.editing.proofs.change_order.Tie as tie
 returns : tie.Need-returns
 returns c =
     let a = c .before .before .before .before .args in
-    changed-no-list (a .list) (a .place) (a .change) (a .new .now) _ (a .order .now) (c .if1 .taken)
+    changed-no-list (a .site .list) (a .site .place) (a .site .change) (a .new .now) _ (a .order .now) (c .if1 .taken)
 
 taken-by-requires : tie.Need-taken-by-requires
 taken-by-requires c κs = search needs
@@ -25,7 +25,7 @@ pick-requires c κs = search needs
 sub-left : tie.Need-sub-left
 sub-left c =
     let start = c .before .before .before .before .before .before in
-    let some = target-some (start .pre .0) (eqb (start .args .list) 0) in
+    let some = target-some (start .pre .0) (eqb (start .args .site .list) 0) in
     omega arith
 
 returns-2 : tie.Need-returns-2
@@ -33,8 +33,8 @@ returns-2 c =
     let start = c .before .before .before .before .before .before .before in
     let a = start .args in
     let held = start .pre .0 in
-    let some = target-some held (eqb (a .list) 0) in
-    changed-no-place (a .list) (a .place) (a .change) (a .new .now) _ (a .order .now) (c .before .before .before .if1 .left) (c .before .pick .result) (target-length held (eqb (a .list) 0) ∙ sym (c .before .pick .ensures)) (c .before .before .taken-by .result) (c .before .before .taken-by .ensures .0) (omega arith) (c .if2 .taken)
+    let some = target-some held (eqb (a .site .list) 0) in
+    changed-no-place (a .site .list) (a .site .place) (a .site .change) (a .new .now) _ (a .order .now) (c .before .before .before .if1 .left) (c .before .pick .result) (target-length held (eqb (a .site .list) 0) ∙ sym (c .before .pick .ensures)) (c .before .before .taken-by .result) (c .before .before .taken-by .ensures .0) (omega arith) (c .if2 .taken)
 
 is-whole-requires : tie.Need-is-whole-requires
 is-whole-requires c κs = search needs
@@ -44,8 +44,8 @@ returns-3 c =
     let start = c .before .before .before .before .before .before .before .before .before in
     let a = start .args in
     let held = start .pre .0 in
-    let some = target-some held (eqb (a .list) 0) in
-    changed-short (a .list) (a .place) (a .change) (a .new .now) _ (a .order .now) (c .before .before .before .before .before .if1 .left) (c .before .before .before .pick .result) (target-length held (eqb (a .list) 0) ∙ sym (c .before .before .before .pick .ensures)) (c .before .before .before .before .taken-by .result) (c .before .before .before .before .taken-by .ensures .0) (omega arith) (c .before .before .if2 .left) (sym (c .before .is-whole .ensures) ∙ not-true _ (c .if3 .taken))
+    let some = target-some held (eqb (a .site .list) 0) in
+    changed-short (a .site .list) (a .site .place) (a .site .change) (a .new .now) _ (a .order .now) (c .before .before .before .before .before .if1 .left) (c .before .before .before .pick .result) (target-length held (eqb (a .site .list) 0) ∙ sym (c .before .before .before .pick .ensures)) (c .before .before .before .before .taken-by .result) (c .before .before .before .before .taken-by .ensures .0) (omega arith) (c .before .before .if2 .left) (sym (c .before .is-whole .ensures) ∙ not-true _ (c .if3 .taken))
 
 put-by-requires : tie.Need-put-by-requires
 put-by-requires c κs = search needs
@@ -64,14 +64,14 @@ slice-aggregate-splice c =
 add-splice : tie.Need-add-splice
 add-splice c =
     let start = c .before .before .before .before .before .before .before .before .before .before .before .before .before in
-    let some = target-some (start .pre .0) (eqb (start .args .list) 0) in
+    let some = target-some (start .pre .0) (eqb (start .args .site .list) 0) in
     omega arith
 
 slice-aggregate-splice-2 : tie.Need-slice-aggregate-splice-2
 slice-aggregate-splice-2 c =
     let a = c .before .before .before .before .before .before .before .before .before .before .before .before .before .before .args in
-    let w = put-long (a .change) (a .new .now) (sym (c .before .before .before .before .before .before .is-whole .ensures) ∙ not-false _ (c .before .before .before .before .before .if3 .left)) in
-    let e : c .before .before .before .before .put-by .result ≡ putBy (a .change) = c .before .before .before .before .put-by .ensures .0 in
+    let w = put-long (a .site .change) (a .new .now) (sym (c .before .before .before .before .before .before .is-whole .ensures) ∙ not-false _ (c .before .before .before .before .before .if3 .left)) in
+    let e : c .before .before .before .before .put-by .result ≡ putBy (a .site .change) = c .before .before .before .before .put-by .ensures .0 in
     simp length-take (omega arith)
 
 splice-requires : tie.Need-splice-requires
@@ -79,9 +79,9 @@ splice-requires c κs =
     let start = c .before .before .before .before .before .before .before .before .before .before .before .before .before .before in
     let a = start .args in
     let held = start .pre .0 in
-    let some = target-some held (eqb (a .list) 0) in
+    let some = target-some held (eqb (a .site .list) 0) in
     let short = lists-short held in
-    let there = section-there held (eqb (a .list) 0) (c .before .before .before .pick2 .result) (c .before .before .before .before .before .before .before .before .pick .result) (c .before .before .before .pick2 .ensures) (c .before .before .before .before .before .before .before .before .pick .ensures) in
+    let there = section-there held (eqb (a .site .list) 0) (c .before .before .before .pick2 .result) (c .before .before .before .before .before .before .before .before .pick .result) (c .before .before .before .pick2 .ensures) (c .before .before .before .before .before .before .before .before .pick .ensures) in
     (omega arith, simp length-take (omega arith), simp length-take (omega arith))
 
 same-length : tie.Need-same-length
@@ -92,11 +92,11 @@ returns-4 c =
     let start = c .before .before .before .before .before .before .before .before .before .before .before .before .before .before .before .before .before in
     let a = start .args in
     let held = start .pre .0 in
-    let some = target-some held (eqb (a .list) 0) in
+    let some = target-some held (eqb (a .site .list) 0) in
     let w = sym (c .before .before .before .before .before .before .before .before .before .is-whole .ensures) ∙ not-false _ (c .before .before .before .before .before .before .before .before .if3 .left) in
     let b = bytes-all (a .new .now) (λ i. omega (arith, c .before .before .before .before .before .before .before .before .before .before .before .before .before .before .before .shared-slice-known2 .given i)) in
-    changed-done (a .list) (a .place) (a .change) (a .new .now) _ (a .order .now) (c .before .before .before .before .before .before .before .before .before .before .before .before .before .if1 .left) (c .before .before .before .before .before .before .before .before .before .before .before .pick .result) (target-length held (eqb (a .list) 0) ∙ sym (c .before .before .before .before .before .before .before .before .before .before .before .pick .ensures)) (c .before .before .before .before .before .before .before .before .before .before .before .before .taken-by .result) (c .before .before .before .before .before .before .before .before .before .before .before .before .taken-by .ensures .0) (omega arith) (c .before .before .before .before .before .before .before .before .before .before .if2 .left) w _
-    (edit-spliced held (a .list) (a .place) (a .change) (a .new .now) (c .before .before .before .before .before .before .pick2 .result) (c .before .before .before .before .before .before .before .before .before .before .before .pick .result) (c .before .before .before .before .before .before .before .before .before .before .before .before .taken-by .result) (c .before .before .before .before .before .before .before .put-by .result) (c .before .before .before .before .before .before .before .before .before .before .before .before .taken-by .ensures .0) (c .before .before .before .before .before .before .before .put-by .ensures .0) (c .before .before .before .before .before .before .pick2 .ensures) (c .before .before .before .before .before .before .before .before .before .before .before .pick .ensures) (omega arith) (c .before .before .before .before .before .before .before .before .before .before .if2 .left) w b)
+    changed-done (a .site .list) (a .site .place) (a .site .change) (a .new .now) _ (a .order .now) (c .before .before .before .before .before .before .before .before .before .before .before .before .before .if1 .left) (c .before .before .before .before .before .before .before .before .before .before .before .pick .result) (target-length held (eqb (a .site .list) 0) ∙ sym (c .before .before .before .before .before .before .before .before .before .before .before .pick .ensures)) (c .before .before .before .before .before .before .before .before .before .before .before .before .taken-by .result) (c .before .before .before .before .before .before .before .before .before .before .before .before .taken-by .ensures .0) (omega arith) (c .before .before .before .before .before .before .before .before .before .before .if2 .left) w _
+    (edit-spliced held (a .site .list) (a .site .place) (a .site .change) (a .new .now) (c .before .before .before .before .before .before .pick2 .result) (c .before .before .before .before .before .before .before .before .before .before .before .pick .result) (c .before .before .before .before .before .before .before .before .before .before .before .before .taken-by .result) (c .before .before .before .before .before .before .before .put-by .result) (c .before .before .before .before .before .before .before .before .before .before .before .before .taken-by .ensures .0) (c .before .before .before .before .before .before .before .put-by .ensures .0) (c .before .before .before .before .before .before .pick2 .ensures) (c .before .before .before .before .before .before .before .before .before .before .before .pick .ensures) (omega arith) (c .before .before .before .before .before .before .before .before .before .before .if2 .left) w b)
     _ _ (c .before .before .splice .ensures .0) (c .before .before .splice .ensures .1)
 
 pub change-order-spec : {M : Type 1} → statement M

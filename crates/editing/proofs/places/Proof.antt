@@ -8,9 +8,9 @@ use Rattle.editing.proofs.places.Tie as tie
 
 gate-places-requires : tie.Need-gate-places-requires
 gate-places-requires c κs =
-    let start = c .before .before .before in
+    let start = c .before .before .before .before in
     let a = start .args in
-    let i = inside-gate (eqb (a .list) 0) (a .place) (a .change) (a .gate) (a .renewed) (eq-eqb (a .list) 0 (c .if1 .taken)) (start .pre .2) in
+    let i = inside-gate (eqb (a .site .list) 0) (a .site .place) (a .site .change) (a .gate) (a .renewed) (eq-eqb (a .site .list) 0 (c .if1 .taken)) (start .pre .2) in
     (start .pre .0, start .pre .1, i .0, i .1)
 
 returns : tie.Need-returns
@@ -21,8 +21,8 @@ count-denies-requires c κs = search needs
 
 returns-2 : tie.Need-returns-2
 returns-2 c =
-    let a = c .before .before .before .before .args in
-    places-own (a .pair .now) (a .order .now) (a .gate) (a .renewed) (a .list) (a .place) (a .change) (c .count-denies .ensures) (ne-eqb (a .list) 0 (c .before .if1 .left))
+    let a = c .before .before .before .before .before .args in
+    places-own (a .pair .now) (a .order .now) (a .gate) (a .renewed) (a .site .list) (a .site .place) (a .site .change) (c .count-denies .ensures) (ne-eqb (a .site .list) 0 (c .before .if1 .left))
 
 pub places-spec : {M : Type 1} → statement M
 places-spec = tie.close (tie.spec gate-places-requires returns count-denies-requires returns-2)

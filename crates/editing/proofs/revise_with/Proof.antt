@@ -27,7 +27,7 @@ module _ (c : tie.After-gate) where
   s = take (c .before .before .before .before .before .before .before .before .args .used) (c .before .before .before .before .before .before .before .before .args .sheet .now)
 
   abbrev q : Asked
-  q = asked (c .before .before .before .before .before .before .before .before .args .list) (c .before .before .before .before .before .before .before .before .args .place) (c .before .before .before .before .before .before .before .before .args .change) (c .before .before .before .before .before .before .before .before .args .new .now)
+  q = asked (c .before .before .before .before .before .before .before .before .args .site .list) (c .before .before .before .before .before .before .before .before .args .site .place) (c .before .before .before .before .before .before .before .before .args .site .change) (c .before .before .before .before .before .before .before .before .args .new .now)
 
   read : PairAccepted s (c .gate .given .0 .0) (c .gate .given .0 .1 .0) (c .gate .given .0 .1 .1 .0) (c .gate .given .0 .1 .1 .1 .0) (c .gate .given .0 .1 .1 .1 .1 .0)
   read =
@@ -40,7 +40,7 @@ module _ (c : tie.After-gate) where
 -- once the new order sheet is made
 module _ (c : tie.After-end) where
   abbrev last : List ℕ
-  last = c .before .before .before .before .change-order .last .1 .1 .1 .1 .1 .1 .1 .1 .1 .0
+  last = c .before .before .before .before .change-order .last .1 .1 .1 .1 .1 .1 .1 .0
 
   changed : OrderChanged (q (c .before .before .before .before .before .before .before .before)) (listsOf (c .before .before .before .before .before .before .before .before .gate .given .0 .0) (c .before .before .before .before .before .before .before .before .gate .given .0 .1 .0) (c .before .before .before .before .before .before .before .before .gate .given .0 .1 .1 .0) (s (c .before .before .before .before .before .before .before .before))) (c .before .before .before .before .before .before .before .before .before .before .before .before .before .before .before .before .args .order .now) (Length (c .end .given .0 .0)) last
   changed = rw (c .end .given .1) at (c .before .before .before .before .change-order .ensures)
