@@ -24,13 +24,13 @@ use Rattle.sheet.specs.Readers.{rulesOf, listsOf}
 use Rattle.sheet.proofs.Sections.{listBytes-length}
 use Rattle.sheet.proofs.Outcomes.{faultless}
 use Rattle.sheet.proofs.Orders.{faultless-fits}
-use Rattle.planner.specs.Calls.{lengthOf}
 use Rattle.planner.specs.Edits.{Asked, kindOf, editOf, wholeRecord}
 use Rattle.planner.specs.declared.Change.{Change}
 use Rattle.planner.specs.declared.Change.the-variants.{Insert, Delete, Replace}
 use Rattle.editing.specs.Orders.{asked, takenBy, putBy, spliced, newOrderOf, overlaid, OrderChanged, ListsHeld}
 use Rattle.editing.proofs.Splices.{section-spliced}
 use Rattle.wire.specs.Lists.{listBytes, listSize}
+use Rattle.wire.specs.Buffers.{lengthOf}
 
 -- what a change takes out and puts in
 pub taken-is : (c : Change) (s : List ℕ) → out (kindOf c s) ≡ takenBy c

@@ -33,7 +33,6 @@ use Rattle.sheet.specs.declared.OrderParts.the-variants.{Parts}
 use Rattle.sheet.proofs.Sections.{listBytes-length}
 use Rattle.sheet.proofs.Orders.{ListFits, faultless-fits, order-back}
 use Rattle.sheet.proofs.Accepted.{PairAccepted, OrderAccepted}
-use Rattle.planner.specs.Calls.{lengthOf}
 use Rattle.planner.specs.Steps.{Writes, slotted, partOf, Finishing}
 use Rattle.planner.specs.Edits.{Asked, kindOf, editOf, wholeRecord, changeOf, editedOf}
 use Rattle.planner.specs.declared.Change.{Change}
@@ -48,6 +47,7 @@ use Rattle.draft.proofs.Runs.{run-length}
 use Rattle.editing.proofs.Slots.{around-length, own-slots, own-placed, gate-slots, gate-placed}
 use Rattle.draft.specs.Arounds.{runSize, GroupsHeld, slotsAround, Placed}
 use Rattle.wire.specs.Lists.{listSize}
+use Rattle.wire.specs.Buffers.{lengthOf}
 
 -- the tests of 9 and 3, whatever comes behind them
 both-refuse : {A B : Type 0} (b c : Bool) (x : Outcome A) (bytes : B → List ℕ) (y : B) (n : ℕ)

@@ -14,10 +14,10 @@ use Rattle.policy.specs.declared.Answer.{Answer}
 use Rattle.wire.specs.Numbers.{numberBytes}
 use Rattle.sheet.specs.Orders.{orderBytes}
 use Rattle.sheet.specs.Readers.{rulesOf, listsOf, ListsPlace}
-use Rattle.planner.specs.Calls.{lengthOf}
 use Rattle.planner.specs.Edits.{Asked, editOf, wholeRecord}
 use Rattle.planner.specs.declared.Change.{Change}
 use Rattle.planner.specs.declared.Change.the-variants.{Insert, Delete, Replace}
+use Rattle.wire.specs.Buffers.{lengthOf}
 
 -- An edit as its parameters ask for it.
 abbrev pub asked : ℕ → ℕ → Change → List ℕ → Asked

@@ -17,14 +17,15 @@ use Rattle.policy.specs.declared.Answer.the-variants.{Length, Refused}
 use Rattle.policy.proofs.Answers.{test-accepted}
 use Rattle.wire.specs.RecordCalls.{readingOf, writingOf, answered, RecordRead, RecordWritten}
 use Rattle.sheet.specs.Orders.{orderBytes, orderIn, gateSize, ownSize, orderSize}
-use Rattle.sheet.specs.Split.{splitOf, splitSaid, splitGate, Split}
-use Rattle.sheet.specs.Join.{joinOf, joinSaid, joinSheet, Join}
+use Rattle.sheet.specs.Split.{splitOf, Split, firstBytes}
+use Rattle.sheet.specs.Join.{joinOf, Join}
 use Rattle.groups.specs.Worked.{workSize}
 use Rattle.planner.specs.Calls.{roomFor, Call, checkOf, yes, Checks}
 use Rattle.planner.proofs.Lengths.{filled-within, call-length}
 use Rattle.filter.specs.Lookup.{refusalBase}
 use Rattle.foldplover.specs.Coded.{Plain}
 use Rattle.wire.specs.Lists.{listBytes}
+use Rattle.wire.specs.Buffers.{written, lengthOf}
 
 -- A call that writes into a buffer of a size below every refusal's number.
 pub call-plain :
@@ -55,8 +56,8 @@ pub written-plain : {ns out out′ : List ℕ} {q : Answer} → RecordWritten ns
 written-plain {ns = ns} {out = out} x = subst Plain (sym (x .answer)) (answered-plain recordSize (omega arith) (writingOf ns out))
 
 -- Split: the A list is within its buffer.
-split-small : (s a b : List ℕ) (x : Outcome Order) → splitOf limits s a b ≡ x → length (splitGate limits a x) ≡ length a → Plain (splitSaid x)
-unfolding splitOf splitGate splitSaid
+split-small : (s a b : List ℕ) (x : Outcome Order) → splitOf limits s a b ≡ x → length (written firstBytes (gateSize limits) a x) ≡ length a → Plain (lengthOf firstBytes x)
+unfolding splitOf written lengthOf
 split-small s a b (accepted o) e h =
     let t = test-accepted (leb (gateSize limits) (length a)) 1 (test (leb (ownSize limits) (length b)) 1 (orderIn limits s)) e in
     let w = filled-within (gateSize limits) a (listBytes (o .gate)) (leb-true (gateSize limits) (length a) (t .0)) h in
@@ -68,8 +69,8 @@ split-plain {s = s} {a = a} {b = b} x e =
     subst Plain (sym (x .answer)) (split-small s a b (splitOf limits s a b) refl (sym (ap length (x .gate)) ∙ e))
 
 -- Join: the order sheet is within its buffer.
-join-small : (a b out : List ℕ) (x : Outcome Order) → joinOf limits a b out ≡ x → length (joinSheet limits out x) ≡ length out → Plain (joinSaid x)
-unfolding joinOf joinSheet joinSaid
+join-small : (a b out : List ℕ) (x : Outcome Order) → joinOf limits a b out ≡ x → length (written orderBytes (orderSize limits) out x) ≡ length out → Plain (lengthOf orderBytes x)
+unfolding joinOf written lengthOf
 join-small a b out (accepted o) e h =
     let t = test-accepted (leb (orderSize limits) (length out)) 1 _ e in
     let w = filled-within (orderSize limits) out (orderBytes o) (leb-true (orderSize limits) (length out) (t .0)) h in

@@ -18,7 +18,7 @@ use Rattle.policy.specs.declared.Answer.the-variants.{Length, Refused}
 use Rattle.policy.specs.declared.Refusal.{Refusal}
 use Rattle.wire.specs.Numbers.{numberBytes, Byte}
 use Rattle.wire.specs.Records.{boxIn, boxesIn, recordBytes, recordsBytes}
-use Rattle.wire.specs.Buffers.{zeroed, filled}
+use Rattle.wire.specs.Buffers.{zeroed, filled, written, lengthOf}
 use Rattle.wire.proofs.Numbers.{numberBytes-length, bytes-drop}
 use Rattle.wire.proofs.Records.{records-append, box-written-back, boxesIn-length, rulesIn-length, records-written-back}
 use Rattle.wire.proofs.Buffers.{filled-is, filled-front}
@@ -28,7 +28,7 @@ use Rattle.sheet.specs.Readers.{rulesOf, groupsFrom, pairOf, pairHeard, PairPla
 use Rattle.sheet.specs.declared.PairParts.the-variants as P
 use Rattle.sheet.proofs.Sections.{listBytes-length}
 use Rattle.sheet.proofs.Orders.{faultless-fits}
-use Rattle.planner.specs.Calls.{written, lengthOf, checkOf, Call, cellBytes, gateBytes, gateSize}
+use Rattle.planner.specs.Calls.{checkOf, Call, cellBytes, gateBytes, gateSize}
 use Rattle.listing.specs.Steps.{CheckRead, boxRecords, boxCount, groupRecords, ListPut}
 use Rattle.planner.proofs.Good.{denials-length, gate-list-good}
 use Rattle.planner.proofs.Calls.{call-done}

@@ -7,10 +7,10 @@ use lib.ListN.{length, take, drop}
 use Rattle.policy.specs.Fields.{limits}
 use Rattle.policy.specs.Move.{together, denials}
 use Rattle.wire.specs.Records.{recordsBytes, boxesIn}
-use Rattle.wire.specs.Buffers.{filled}
+use Rattle.wire.specs.Buffers.{filled, written}
 use Rattle.sheet.specs.Readers.{groupsFrom, pairHeard, PairPlaced}
 use Rattle.sheet.specs.declared.PairParts.{PairParts}
-use Rattle.planner.specs.Calls.{checkOf, written}
+use Rattle.planner.specs.Calls.{checkOf}
 
 -- Whether a draft has as many boxes as the sheet says, and is all that stands behind a place of it.
 pub record SameGroups (s : List ℕ) (from boxes : ℕ) (draft : List ℕ) (drawn end : ℕ) (r : Bool) : Type 0 where

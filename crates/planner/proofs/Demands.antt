@@ -25,7 +25,7 @@ use Rattle.policy.proofs.Kept.{others-kept}
 use Rattle.policy.proofs.Checks.{moved-is-checked}
 use Rattle.policy.proofs.Demands.{move-holds}
 use Rattle.wire.specs.Numbers.{Byte}
-use Rattle.wire.specs.Buffers.{filled}
+use Rattle.wire.specs.Buffers.{filled, written}
 use Rattle.wire.proofs.Buffers.{filled-over}
 use Rattle.wire.proofs.Records.{RuleFits, ruleIn-fits}
 use Rattle.sheet.specs.Orders.{orderIn, orderBytes}
@@ -33,7 +33,7 @@ use Rattle.sheet.specs.Pairs.{pairIn, pairBytes, pairSize}
 use Rattle.sheet.proofs.Outcomes.{through, faultless}
 use Rattle.sheet.proofs.Orders.{ListFits, faultless-fits, order-back, order-faultless, order-written-back, list-back}
 use Rattle.sheet.proofs.Pairs.{pair-back, pair-good}
-use Rattle.planner.specs.Calls.{planOf, moveOf, checkedOf, checkOf, written}
+use Rattle.planner.specs.Calls.{planOf, moveOf, checkedOf, checkOf}
 use Rattle.planner.specs.Edits.{Asked, kindOf, editOf, wholeRecord, changeOf, editedOf}
 use Rattle.planner.specs.Demands.{DemandTwo, Small, Held, held, after, edits, runCalls, ifTaken, taken, DemandThree, EditAsFresh, OthersAsBefore}
 use Rattle.planner.specs.declared.Change.{Change}

@@ -23,7 +23,7 @@ use Rattle.policy.proofs.Edits.{slots-append, kept-boxes, faults-append, list-a
 use Rattle.policy.proofs.Proper.{Proper, moved-proper}
 use Rattle.wire.specs.Numbers.{Byte}
 use Rattle.wire.specs.Records.{rulesIn}
-use Rattle.wire.specs.Buffers.{filled}
+use Rattle.wire.specs.Buffers.{filled, written, lengthOf}
 use Rattle.wire.proofs.Records.{rulesIn-length}
 use Rattle.wire.proofs.Numbers.{numberBytes-length}
 use Rattle.sheet.specs.Orders.{orderBytes}
@@ -37,7 +37,6 @@ use Rattle.draft.specs.Sheets.{Laid, sheetOf}
 use Rattle.draft.specs.declared.Drafted.the-variants as D
 use Rattle.draft.proofs.Drawn.{drawn-over, drawn-light, drawn-boxes, drawn-end, drawn-content}
 use Rattle.draft.proofs.Drafts.{rules-front, rules-sound-front}
-use Rattle.planner.specs.Calls.{written, lengthOf}
 use Rattle.planner.proofs.Good.{pair-short}
 use Rattle.draft.specs.Arounds.{keptSlots, slotsAround, AroundReady, DraftedAround}
 use Rattle.planner.specs.Steps.{Writes, slotted, partOf, Finishing}

@@ -16,10 +16,11 @@ use Rattle.policy.proofs.Answers.{said-once}
 use Rattle.wire.specs.Numbers.{Byte}
 use Rattle.groups.specs.Worked.{workSize}
 use Rattle.sheet.specs.Pairs.{pairBytes, pairSize}
-use Rattle.planner.specs.Calls.{roomFor, written, lengthOf, moveOf, Moves}
+use Rattle.planner.specs.Calls.{roomFor, moveOf, Moves}
 use Rattle.planner.specs.Edits.{Asked}
 use Rattle.planner.specs.Demands.{MoveMeets, Held, held, after, edits, runCalls, lengthNow, EditCalls, RunAsFresh}
 use Rattle.planner.proofs.Demands.{move-read, demand-two, demand-three, limits-small}
+use Rattle.wire.specs.Buffers.{written, lengthOf}
 
 -- one edit call that is lent enough is a step of the run
 step-is : (h : Held) (x : Outcome Pair) (r : Answer) (b : List ℕ) → said r ≡ lengthOf pairBytes x → b ≡ written pairBytes (pairSize limits) (h .buffer) x

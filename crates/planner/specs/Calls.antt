@@ -11,7 +11,7 @@ use Rattle.policy.specs.Refusals.{Outcome, accepted, refused, test, andThen, un
 use Rattle.policy.specs.Move.{slotsOf, room, Order, Pair, moved, gateList, cellList}
 use Rattle.policy.specs.Check.{checkRefusal}
 use Rattle.policy.specs.declared.Answer.{Answer}
-use Rattle.wire.specs.Buffers.{zeroed, filled}
+use Rattle.wire.specs.Buffers.{zeroed, written, lengthOf}
 use Rattle.groups.specs.Worked.{workSize}
 use Rattle.sheet.specs.Orders.{orderIn}
 use Rattle.sheet.specs.Pairs.{pairIn, pairBytes, pairSize}
@@ -24,16 +24,6 @@ roomFor n out = leb n (length out)
 -- The work buffer is zero at its front after every answer but 1, which touches nothing.
 unfoldable pub workAfter : Limits → Bool → List ℕ → List ℕ
 workAfter lim lent work = cond lent (zeroed 0 (workSize lim) work) work
-
--- What is left of a buffer that a call writes: the content and zeros behind it, or after a refusal what was there.
-unfoldable pub written : {A : Type 0} → (A → List ℕ) → ℕ → List ℕ → Outcome A → List ℕ
-written bytes end out (accepted a) = filled end out (bytes a)
-written bytes end out (refused n) = out
-
--- The answer is the length of what was written.
-unfoldable pub lengthOf : {A : Type 0} → (A → List ℕ) → Outcome A → Outcome ℕ
-lengthOf bytes (accepted a) = accepted (length (bytes a))
-lengthOf bytes (refused n) = refused n
 
 -- A call that writes: number 1, which is first, unless all that is lent is long enough; then what it comes to. It determines
 -- the answer, the buffer that is written and the work buffer.

@@ -18,9 +18,10 @@ use Rattle.policy.specs.declared.Answer.the-variants.{Length, Refused}
 use Rattle.groups.specs.Worked.{workSize}
 use Rattle.sheet.specs.Orders.{orderIn, orderBytes, listIn}
 use Rattle.sheet.specs.Pairs.{pairIn, pairBytes, pairSize}
-use Rattle.planner.specs.Calls.{roomFor, moveOf, Moves, checkOf, written}
+use Rattle.planner.specs.Calls.{roomFor, moveOf, Moves, checkOf}
 use Rattle.planner.specs.Edits.{Asked, kindOf, editOf, editedOf, editLent, Edits}
 use Rattle.wire.specs.Lists.{listBytes}
+use Rattle.wire.specs.Buffers.{written}
 
 -- Demand 2 of an order sheet's bytes that a move accepts with the pair p. Its lists o are those that the bytes say, and say
 -- the same bytes; the sheet written is read as p, and passes check; its two lists, read from their bytes, forward a packet

@@ -14,8 +14,9 @@ use Rattle.sheet.specs.Readers.{rulesOf, OrderRead}
 use Rattle.sheet.specs.declared.OrderParts.the-variants.{Parts}
 use Rattle.draft.specs.Arounds.{GroupsHeld, slotsAround, Placed}
 use Rattle.draft.specs.declared.Around.{Around}
-use Rattle.planner.specs.Calls.{moveOf, written, lengthOf}
+use Rattle.planner.specs.Calls.{moveOf}
 use Rattle.wire.specs.Lists.{listSize}
+use Rattle.wire.specs.Buffers.{written, lengthOf}
 
 -- A result written to a buffer, or a refusal; nothing changed behind the work buffer's front.
 pub record Writes {A : Type 0} (bytes : A → List ℕ) (size : ℕ) (x : Outcome A) (out w : List ℕ) (r : Answer) (out′ w′ : List ℕ) : Type 0 where

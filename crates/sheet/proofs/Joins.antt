@@ -15,9 +15,9 @@ use Rattle.policy.specs.declared.Refusal.the-variants.{BufferShort}
 use Rattle.policy.specs.declared.Answer.{Answer}
 use Rattle.policy.specs.declared.Answer.the-variants.{Length, Refused}
 use Rattle.policy.proofs.Answers.{said-once}
-use Rattle.wire.specs.Buffers.{filled}
+use Rattle.wire.specs.Buffers.{filled, written, lengthOf}
 use Rattle.sheet.specs.Orders.{orderBytes, orderSize}
-use Rattle.sheet.specs.Join.{Join, joinOf, joinSaid, joinSheet}
+use Rattle.sheet.specs.Join.{Join, joinOf}
 use Rattle.sheet.specs.Readers.{ListPlace, ListPlaced, ListRead}
 use Rattle.sheet.specs.declared.Section.{Section}
 use Rattle.sheet.specs.declared.Section.the-variants as S
@@ -60,7 +60,7 @@ module _ {a b : List ℕ} {r q : Section} (x : ListRead (limits .gate) a r) (y :
 
 module _ (a b out : List ℕ) where
   refusing : (f : Refusal) → joinOf limits a b out ≡ refused (numberOf f) → Join a b out (Refused f) out
-  unfolding joinSaid joinSheet
+  unfolding lengthOf written
   refusing f e = record { answer = rw e refl; sheet = rw e refl }
 
   pub sheet-short : length out < orderSize limits → Join a b out (Refused BufferShort) out
@@ -81,7 +81,7 @@ module _ (a b out : List ℕ) where
       pub join-done :
           ((i : ℕ) → Fits w8 (getD b i 0)) → (j k : ℕ) → q ≡ S.Rules j k → {last : List ℕ} → last ≡ filled (orderSize limits) out (a ++ b)
           → Join a b out (Length (length a + length b)) last
-      unfolding joinOf joinSaid joinSheet orderBytes
+      unfolding joinOf lengthOf written orderBytes
       join-done bb j k i u =
           let z = list-accepted g (bytes-of a ba) n m e in
           let w = list-accepted h (bytes-of b bb) j k i in

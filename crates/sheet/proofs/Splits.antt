@@ -15,9 +15,9 @@ use Rattle.policy.specs.declared.Refusal.the-variants.{BufferShort}
 use Rattle.policy.specs.declared.Answer.{Answer}
 use Rattle.policy.specs.declared.Answer.the-variants.{Length, Refused}
 use Rattle.policy.proofs.Answers.{said-once}
-use Rattle.wire.specs.Buffers.{filled}
+use Rattle.wire.specs.Buffers.{filled, written, lengthOf}
 use Rattle.sheet.specs.Orders.{orderIn, gateSize, ownSize}
-use Rattle.sheet.specs.Split.{Split, splitOf, splitSaid, splitGate, splitOwn}
+use Rattle.sheet.specs.Split.{Split, splitOf}
 use Rattle.sheet.specs.Readers.{ListsPlace, OrderPlaced, OrderRead}
 use Rattle.sheet.specs.declared.OrderParts.{OrderParts}
 use Rattle.sheet.specs.declared.OrderParts.the-variants as O
@@ -49,7 +49,7 @@ module _ {s : List ℕ} {r : OrderParts} (x : OrderRead s r) (n m middle : ℕ) 
 
 module _ (s a b : List ℕ) where
   refusing : (f : Refusal) → splitOf limits s a b ≡ refused (numberOf f) → Split s a b (Refused f) a b
-  unfolding splitSaid splitGate splitOwn
+  unfolding lengthOf written
   refusing f e = record { answer = rw e refl; gate = rw e refl; own = rw e refl }
 
   pub gate-short : length a < gateSize limits → Split s a b (Refused BufferShort) a b
@@ -73,7 +73,7 @@ module _ (s a b : List ℕ) where
           ((i : ℕ) → Fits w8 (getD s i 0)) → (n m middle : ℕ) → r ≡ O.Parts n m middle
           → {a′ b′ : List ℕ} → a′ ≡ filled (gateSize limits) a (take middle s) → b′ ≡ filled (ownSize limits) b (take (length s - middle) (drop middle s))
           → Split s a b (Length middle) a′ b′
-      unfolding splitSaid splitGate splitOwn
+      unfolding lengthOf written
       split-done f n m middle e u v =
           let o = order-accepted z (bytes-of s f) n m middle e in
           record {

@@ -15,10 +15,10 @@ use Rattle.policy.specs.declared.Answer.{Answer}
 use Rattle.policy.specs.declared.Answer.the-variants.{Length}
 use Rattle.policy.proofs.Answers.{said-once, test-accepted}
 use Rattle.wire.specs.Numbers.{Byte}
-use Rattle.wire.specs.Buffers.{filled}
+use Rattle.wire.specs.Buffers.{filled, written, lengthOf}
 use Rattle.sheet.specs.Orders.{order, orderIn, orderBytes, listIn, gateSize, ownSize, orderSize}
-use Rattle.sheet.specs.Split.{Split, splitOf, splitSaid, splitGate, splitOwn}
-use Rattle.sheet.specs.Join.{Join, joinOf, joinSaid, joinSheet}
+use Rattle.sheet.specs.Split.{Split, splitOf, firstBytes, secondBytes}
+use Rattle.sheet.specs.Join.{Join, joinOf}
 use Rattle.sheet.proofs.Outcomes.{through}
 use Rattle.sheet.proofs.Orders.{order-again, order-faultless, order-written-back, list-again, list-faultless, list-written-back}
 use Rattle.wire.specs.Lists.{listBytes}
@@ -36,10 +36,10 @@ record SplitAccepted (s a b : List ℕ) (n : ℕ) (a′ b′ : List ℕ) : Type 
   pub own : b′ ≡ filled (ownSize limits) b (listBytes (lists .own))
 
 split-accepted : {s a b : List ℕ} {n : ℕ} {a′ b′ : List ℕ} → Split s a b (Length n) a′ b′ → SplitAccepted s a b n a′ b′
-unfolding splitOf splitSaid splitGate splitOwn
+unfolding splitOf lengthOf written
 split-accepted {s} {a} {b} {n} {a′} {b′} x = go (splitOf limits s a b) refl (x .answer) (x .gate) (x .own)
   where
-    go : (y : Outcome Order) → splitOf limits s a b ≡ y → said (Length n) ≡ splitSaid y → a′ ≡ splitGate limits a y → b′ ≡ splitOwn limits b y
+    go : (y : Outcome Order) → splitOf limits s a b ≡ y → said (Length n) ≡ lengthOf firstBytes y → a′ ≡ written firstBytes (gateSize limits) a y → b′ ≡ written secondBytes (ownSize limits) b y
         → SplitAccepted s a b n a′ b′
     go (accepted o) e u v w =
         let c = test-accepted (leb (gateSize limits) (length a)) 1 _ e in
@@ -56,10 +56,10 @@ record JoinAccepted (a b out : List ℕ) (n : ℕ) (out′ : List ℕ) : Type 0 
   pub sheet : out′ ≡ filled (orderSize limits) out (orderBytes lists)
 
 join-accepted : {a b out : List ℕ} {n : ℕ} {out′ : List ℕ} → Join a b out (Length n) out′ → JoinAccepted a b out n out′
-unfolding joinOf joinSaid joinSheet
+unfolding joinOf lengthOf written
 join-accepted {a} {b} {out} {n} {out′} x = go (joinOf limits a b out) refl (x .answer) (x .sheet)
   where
-    go : (y : Outcome Order) → joinOf limits a b out ≡ y → said (Length n) ≡ joinSaid y → out′ ≡ joinSheet limits out y → JoinAccepted a b out n out′
+    go : (y : Outcome Order) → joinOf limits a b out ≡ y → said (Length n) ≡ lengthOf orderBytes y → out′ ≡ written orderBytes (orderSize limits) out y → JoinAccepted a b out n out′
     go (accepted o) e u v =
         let c = test-accepted (leb (orderSize limits) (length out)) 1 _ e in
         let d = through (listIn (limits .gate) a) _ o (c .1) in
@@ -78,7 +78,7 @@ join-accepted {a} {b} {out} {n} {out′} x = go (joinOf limits a b out) refl (x 
 pub split-then-join :
     {s a b a′ b′ out out′ : List ℕ} {n : ℕ} {r : Answer} → Each Byte s → Split s a b (Length n) a′ b′ → orderSize limits ≤ length out
     → Join (take n a′) (take (length s - n) b′) out r out′ → (r ≡ Length (length s)) × (out′ ≡ filled (orderSize limits) out s)
-unfolding orderBytes joinOf joinSaid joinSheet
+unfolding orderBytes joinOf lengthOf written
 split-then-join {s} {a} {b} {a′} {b′} {out} {out′} {n} {r} h x g y =
     let p = split-accepted x in
     let o = p .lists in
@@ -98,8 +98,8 @@ split-then-join {s} {a} {b} {a′} {b′} {out} {out′} {n} {r} h x g y =
       list-again (limits .own) (o .own) (omega arith) (f .1),
     )
     refl in (
-      said-once r (Length (length s)) (z .answer ∙ (ap joinSaid j ∙ ap (λ (t : List ℕ). accepted (length t)) k)),
-      z .sheet ∙ (ap (joinSheet limits out) j ∙ ap (filled (orderSize limits) out) k),
+      said-once r (Length (length s)) (z .answer ∙ (ap (lengthOf orderBytes) j ∙ ap (λ (t : List ℕ). accepted (length t)) k)),
+      z .sheet ∙ (ap (written orderBytes (orderSize limits) out) j ∙ ap (filled (orderSize limits) out) k),
     )
 
 -- A joined sheet splits to the lists that were joined.
@@ -107,7 +107,7 @@ pub join-then-split :
     {a b out out′ x y x′ y′ : List ℕ} {n : ℕ} {r : Answer} → Each Byte a → Each Byte b → Join a b out (Length n) out′
     → gateSize limits ≤ length x → ownSize limits ≤ length y → Split (take n out′) x y r x′ y′
     → (r ≡ Length (length a)) × (x′ ≡ filled (gateSize limits) x a) × (y′ ≡ filled (ownSize limits) y b)
-unfolding splitOf splitSaid splitGate splitOwn
+unfolding splitOf lengthOf written
 join-then-split {a} {b} {out} {out′} {x} {y} {x′} {y′} {n} {r} h k j g w z =
     let p = join-accepted j in
     let o = p .lists in
@@ -122,7 +122,7 @@ join-then-split {a} {b} {out} {out′} {x} {y} {x′} {y′} {n} {r} h k j g w z
       order-again limits o (omega arith) (omega arith) (list-faultless (limits .gate) a (o .gate) (p .gate)) (list-faultless (limits .own) b (o .own) (p .own)),
     )
     refl in (
-      said-once r (Length (length a)) (v .answer ∙ (ap splitSaid c ∙ ap (λ (t : List ℕ). accepted (length t)) e)),
-      v .gate ∙ (ap (splitGate limits x) c ∙ ap (filled (gateSize limits) x) e),
-      v .own ∙ (ap (splitOwn limits y) c ∙ ap (filled (ownSize limits) y) f),
+      said-once r (Length (length a)) (v .answer ∙ (ap (lengthOf firstBytes) c ∙ ap (λ (t : List ℕ). accepted (length t)) e)),
+      v .gate ∙ (ap (written firstBytes (gateSize limits) x) c ∙ ap (filled (gateSize limits) x) e),
+      v .own ∙ (ap (written secondBytes (ownSize limits) y) c ∙ ap (filled (ownSize limits) y) f),
     )

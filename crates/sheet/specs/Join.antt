@@ -5,10 +5,10 @@ use Prim.Native.Nat.{ℕ}
 use lib.Dec.{leb}
 use lib.ListN.{length}
 use Rattle.policy.specs.Fields.{Limits, limits}
-use Rattle.policy.specs.Refusals.{Outcome, accepted, refused, test, andThen, said}
+use Rattle.policy.specs.Refusals.{Outcome, accepted, test, andThen, said}
 use Rattle.policy.specs.Move.{Order}
 use Rattle.policy.specs.declared.Answer.{Answer}
-use Rattle.wire.specs.Buffers.{filled}
+use Rattle.wire.specs.Buffers.{written, lengthOf}
 use Rattle.sheet.specs.Orders.{order, orderBytes, listIn, orderSize}
 
 -- 1 is first; then A is read whole, its left-over bytes last, and then B.
@@ -17,14 +17,7 @@ joinOf lim a b out =
     test (leb (orderSize lim) (length out)) 1
     (andThen (listIn (lim .gate) a) (λ g. andThen (listIn (lim .own) b) (λ w. accepted (order g w))))
 
-unfoldable pub joinSaid : Outcome Order → Outcome ℕ
-joinSaid (accepted o) = accepted (length (orderBytes o))
-joinSaid (refused n) = refused n
-
-unfoldable pub joinSheet : Limits → List ℕ → Outcome Order → List ℕ
-joinSheet lim out (accepted o) = filled (orderSize lim) out (orderBytes o)
-joinSheet lim out (refused n) = out
-
+-- The answer is the sheet's length; it is zero behind its content; a refusal leaves it as it was.
 pub record Join (a b out : List ℕ) (r : Answer) (out′ : List ℕ) : Type 0 where
-  pub answer : said r ≡ joinSaid (joinOf limits a b out)
-  pub sheet : out′ ≡ joinSheet limits out (joinOf limits a b out)
+  pub answer : said r ≡ lengthOf orderBytes (joinOf limits a b out)
+  pub sheet : out′ ≡ written orderBytes (orderSize limits) out (joinOf limits a b out)

@@ -24,7 +24,8 @@ use Rattle.policy.specs.declared.Answer.the-variants.{Length, Refused}
 use Rattle.policy.proofs.Answers.{said-once}
 use Rattle.wire.specs.Numbers.{Byte}
 use Rattle.wire.specs.Records.{recordBytes, ruleIn}
-use Rattle.wire.specs.RecordCalls.{numbersSize, lowOf, highOf, ruleNumbers, numbersRule, readingOf, writingOf, answered, frontWith, RecordRead, RecordWritten}
+use Rattle.wire.specs.RecordCalls.{numbersSize, lowOf, highOf, ruleNumbers, numbersRule, readingOf, writingOf, answered, RecordRead, RecordWritten}
+use Rattle.wire.specs.Buffers.{written}
 use Rattle.wire.proofs.Buffers.{filled-front}
 use Rattle.wire.proofs.Records.{fits-length, sound-fits, recordBytes-length, rule-back, record-written-back}
 use Rattle.lists.proofs.Lists.{sets-append}
@@ -66,8 +67,8 @@ sound-length r h = fits-length widths (r .region) (sound-fits r h .0)
 -- Reading, return by return.
 module _ (s ns : List ℕ) where
   read-refused : (f : Refusal) → readingOf s ns ≡ refused (numberOf f) → RecordRead s ns (Refused f) ns
-  unfolding answered frontWith
-  read-refused f e = record { answer = ap (answered 0) (sym e); numbers = ap (frontWith ruleNumbers numbersSize ns) (sym e) }
+  unfolding answered written
+  read-refused f e = record { answer = ap (answered 0) (sym e); numbers = ap (written ruleNumbers numbersSize ns) (sym e) }
 
   pub no-room : length ns < numbersSize → RecordRead s ns (Refused BufferShort) ns
   unfolding readingOf
@@ -84,20 +85,20 @@ module _ (s ns : List ℕ) where
       bad-record h = read-refused RuleBad (rw (le-leb numbersSize (length ns) room, eq-eqb (length s) recordSize long, ← is, ← e, not-true t h) refl)
 
       pub record-read : not t ≡ false → (ns′ : List ℕ) → ns′ ≡ sets ns 0 (ruleNumbers r) → RecordRead s ns (Length 0) ns′
-      unfolding readingOf answered frontWith
+      unfolding readingOf answered written
       record-read h ns′ u =
           let g : sound r ≡ true = sym e ∙ not-false t h in
           let k : readingOf s ns ≡ accepted r = rw (le-leb numbersSize (length ns) room, eq-eqb (length s) recordSize long, ← is, g) refl in
           record {
             answer = ap (answered 0) (sym k);
-            numbers = u ∙ (filled-front numbersSize ns (ruleNumbers r) (numbers-length r (sound-length r g)) room ∙ ap (frontWith ruleNumbers numbersSize ns) (sym k));
+            numbers = u ∙ (filled-front numbersSize ns (ruleNumbers r) (numbers-length r (sound-length r g)) room ∙ ap (written ruleNumbers numbersSize ns) (sym k));
           }
 
 -- Writing, return by return.
 module _ (ns out : List ℕ) where
   write-refused : (f : Refusal) → writingOf ns out ≡ refused (numberOf f) → RecordWritten ns out (Refused f) out
-  unfolding answered frontWith
-  write-refused f e = record { answer = ap (answered recordSize) (sym e); bytes = ap (frontWith recordBytes recordSize out) (sym e) }
+  unfolding answered written
+  write-refused f e = record { answer = ap (answered recordSize) (sym e); bytes = ap (written recordBytes recordSize out) (sym e) }
 
   pub few-numbers : length ns < numbersSize → RecordWritten ns out (Refused BufferShort) out
   unfolding writingOf
@@ -114,13 +115,13 @@ module _ (ns out : List ℕ) where
       bad-numbers h = write-refused RuleBad (rw (le-leb numbersSize (length ns) all, le-leb recordSize (length out) room, ← is, ← e, not-true t h) refl)
 
       pub record-written : not t ≡ false → (out′ : List ℕ) → out′ ≡ sets out 0 (recordBytes r) → RecordWritten ns out (Length recordSize) out′
-      unfolding writingOf answered frontWith
+      unfolding writingOf answered written
       record-written h out′ u =
           let g : sound r ≡ true = sym e ∙ not-false t h in
           let k : writingOf ns out ≡ accepted r = rw (le-leb numbersSize (length ns) all, le-leb recordSize (length out) room, ← is, g) refl in
           record {
             answer = ap (answered recordSize) (sym k);
-            bytes = u ∙ (filled-front recordSize out (recordBytes r) (recordBytes-length r (sound-fits r g)) room ∙ ap (frontWith recordBytes recordSize out) (sym k));
+            bytes = u ∙ (filled-front recordSize out (recordBytes r) (recordBytes-length r (sound-fits r g)) room ∙ ap (written recordBytes recordSize out) (sym k));
           }
 
 -- Two outcomes of one call are equal.

@@ -2,6 +2,7 @@
 use mathlib.Core.List.{List, _++_}
 use Prim.Native.Nat.{ℕ, _-_}
 use lib.ListN.{length, take, drop, replicate}
+use Rattle.policy.specs.Refusals.{Outcome, accepted, refused}
 
 -- The bytes from one place up to another set to zero.
 unfoldable pub zeroed : ℕ → ℕ → List ℕ → List ℕ
@@ -10,3 +11,13 @@ zeroed from to out = take from out ++ (replicate (to - from) 0 ++ drop to out)
 -- Content at the front, zero behind it up to `end`, and beyond that what was there.
 unfoldable pub filled : ℕ → List ℕ → List ℕ → List ℕ
 filled end out content = content ++ (replicate (end - length content) 0 ++ drop end out)
+
+-- What is left of a buffer that a call writes: the content and zeros behind it, or after a refusal what was there.
+unfoldable pub written : {A : Type 0} → (A → List ℕ) → ℕ → List ℕ → Outcome A → List ℕ
+written bytes end out (accepted a) = filled end out (bytes a)
+written bytes end out (refused n) = out
+
+-- Where the answer is the length of what was written.
+unfoldable pub lengthOf : {A : Type 0} → (A → List ℕ) → Outcome A → Outcome ℕ
+lengthOf bytes (accepted a) = accepted (length (bytes a))
+lengthOf bytes (refused n) = refused n

@@ -10,7 +10,7 @@ use Rattle.policy.specs.Rules.{Rule, rule, sound}
 use Rattle.policy.specs.Refusals.{Outcome, accepted, refused, test, said}
 use Rattle.policy.specs.Values.{ranges}
 use Rattle.policy.specs.declared.Answer.{Answer}
-use Rattle.wire.specs.Buffers.{filled}
+use Rattle.wire.specs.Buffers.{written}
 use Rattle.wire.specs.Records.{recordBytes, ruleIn}
 
 -- A rule given as numbers: the lows, the highs, the action.
@@ -45,15 +45,10 @@ unfoldable pub answered : ℕ → Outcome Rule → Outcome ℕ
 answered n (accepted r) = accepted n
 answered n (refused m) = refused m
 
--- What is accepted stands at the front of what was lent; a refusal leaves it as it was.
-unfoldable pub frontWith : (Rule → List ℕ) → ℕ → List ℕ → Outcome Rule → List ℕ
-frontWith f size out (accepted r) = filled size out (f r)
-frontWith f size out (refused m) = out
-
 pub record RecordRead (s ns : List ℕ) (r : Answer) (ns′ : List ℕ) : Type 0 where
   pub answer : said r ≡ answered 0 (readingOf s ns)
-  pub numbers : ns′ ≡ frontWith ruleNumbers numbersSize ns (readingOf s ns)
+  pub numbers : ns′ ≡ written ruleNumbers numbersSize ns (readingOf s ns)
 
 pub record RecordWritten (ns out : List ℕ) (r : Answer) (out′ : List ℕ) : Type 0 where
   pub answer : said r ≡ answered recordSize (writingOf ns out)
-  pub bytes : out′ ≡ frontWith recordBytes recordSize out (writingOf ns out)
+  pub bytes : out′ ≡ written recordBytes recordSize out (writingOf ns out)
