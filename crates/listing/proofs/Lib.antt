@@ -1,3 +1,4 @@
+pub mod Bytes
 pub mod Drafting
 pub mod Checking
 pub mod Listing

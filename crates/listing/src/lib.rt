@@ -14,6 +14,7 @@ use policy::Rule;
 use policy::TOTAL_MOST;
 use sheet::PairParts;
 ghost use mathlib.Core.Path.{_≡_};
+ghost use mathlib.Core.Bool.{true};
 ghost use Prim.Native.Nat.{_+_, _*_, _≤_};
 ghost use lib.ListN.{length, drop};
 ghost use lib.Seq.{sets};
@@ -32,15 +33,34 @@ pub const CELL_LIST_BYTES: usize = COUNT_BYTES + RECORD_BYTES * TOTAL_MOST;
 
 pub const GATE_LIST_BYTES: usize = COUNT_BYTES + RECORD_BYTES;
 
+// Whether two slices hold the same bytes: four at a time, then what is left.
+fn same_bytes(a: &[u8], b: &[u8]) -> bool
+    ensures { λ r. ⌜ (r ≡ true → now (a .entry) ≡ now (b .entry)) × (now (a .entry) ≡ now (b .entry) → r ≡ true) ⌝ }
+{
+    if a.len() != b.len() {
+        return false;
+    }
+    let mut i: usize = 0;
+    let mut left = a.len();
+    while 4 <= left {
+        if wire::four_at(a, i) != wire::four_at(b, i) {
+            return false;
+        }
+        i += 4;
+        left -= 4;
+    }
+    check::same(&a[i..], &b[i..])
+}
+
 // Whether the draft is all that stands behind a place of the sheet: as many boxes, and the same bytes.
 fn is_same(sheet: &[u8], from: usize, boxes: usize, draft: &[u8], drawn: usize, end: usize) -> bool
     requires { ⌜ (from ≤ length (now sheet)) × (drawn ≡ boxes → end ≤ length (now draft)) ⌝ }
     ensures { λ r. ⌜ SameGroups (now (sheet .entry)) from boxes (now (draft .entry)) drawn end r ⌝ }
 {
-    if drawn != boxes {
-        return false;
+    if drawn == boxes {
+        return same_bytes(&draft[..end], &sheet[from..]);
     }
-    check::same(&draft[..end], &sheet[from..])
+    false
 }
 
 // The pair sheet read, its groups drafted anew, and the draft compared with section C.

@@ -23,7 +23,7 @@ fn wide(x: u8) -> u32
     x as u32
 }
 
-fn four_at(s: &[u8], at: usize) -> u32
+pub fn four_at(s: &[u8], at: usize) -> u32
     requires { ⌜ at + 4 ≤ length (now s) ⌝ }
     ensures { λ r. ⌜ r ≡ numberIn (take 4 (drop at (now (s .entry)))) ⌝ }
 {
