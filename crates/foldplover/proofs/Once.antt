@@ -4,15 +4,15 @@ use mathlib.Core.List.{List}
 use mathlib.Core.Bool.{Bool}
 use Prim.Native.Nat.{ℕ}
 use Rattle.policy.specs.Refusals.{Outcome}
-use Rattle.wire.specs.RecordCalls.{RecordRead, RecordWritten}
-use Rattle.wire.proofs.RecordCalls.{rule-once, record-once}
-use Rattle.sheet.specs.Split.{Split}
-use Rattle.sheet.specs.Join.{Join}
-use Rattle.sheet.proofs.Splits.{split-once}
-use Rattle.sheet.proofs.Joins.{join-once}
+use Rattle.records.specs.Calls.{RecordRead, RecordWritten}
+use Rattle.records.proofs.Calls.{rule-once, record-once}
+use Rattle.orders.specs.Split.{Split}
+use Rattle.orders.specs.Join.{Join}
+use Rattle.orders.proofs.Splits.{split-once}
+use Rattle.orders.proofs.Joins.{join-once}
 use Rattle.planner.specs.Calls.{Call, Checks}
 use Rattle.planner.proofs.Calls.{call-once}
-use Rattle.listing.proofs.Checking.{check-once}
+use Rattle.checking.proofs.Checking.{check-once}
 use Rattle.foldplover.specs.Coded.{Coded}
 use Rattle.foldplover.proofs.Codes.{same-number}
 

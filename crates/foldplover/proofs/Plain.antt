@@ -15,10 +15,10 @@ use Rattle.policy.specs.Move.{Order, Pair}
 use Rattle.policy.specs.declared.Answer.{Answer}
 use Rattle.policy.specs.declared.Answer.the-variants.{Length, Refused}
 use Rattle.policy.proofs.Answers.{test-accepted}
-use Rattle.wire.specs.RecordCalls.{readingOf, writingOf, answered, RecordRead, RecordWritten}
+use Rattle.records.specs.Calls.{readingOf, writingOf, answered, RecordRead, RecordWritten}
 use Rattle.sheet.specs.Orders.{orderBytes, orderIn, gateSize, ownSize, orderSize}
-use Rattle.sheet.specs.Split.{splitOf, Split, firstBytes}
-use Rattle.sheet.specs.Join.{joinOf, Join}
+use Rattle.orders.specs.Split.{splitOf, Split, firstBytes}
+use Rattle.orders.specs.Join.{joinOf, Join}
 use Rattle.groups.specs.Worked.{workSize}
 use Rattle.planner.specs.Calls.{roomFor, Call, checkOf, yes, Checks}
 use Rattle.planner.proofs.Lengths.{filled-within, call-length}

@@ -11,9 +11,9 @@ ghost use mathlib.Core.List.{[], _∷_};
 ghost use Rattle.policy.specs.Fields.{limits};
 ghost use Rattle.policy.specs.Refusals.{said};
 ghost use Rattle.policy.specs.Values.{packetOf};
-ghost use Rattle.wire.specs.RecordCalls.{RecordRead, RecordWritten};
-ghost use Rattle.sheet.specs.Split.{Split};
-ghost use Rattle.sheet.specs.Join.{Join};
+ghost use Rattle.records.specs.Calls.{RecordRead, RecordWritten};
+ghost use Rattle.orders.specs.Split.{Split};
+ghost use Rattle.orders.specs.Join.{Join};
 ghost use Rattle.planner.specs.Calls.{Moves, Checks, Lists, cellBytes, cellSize, gateBytes, gateSize};
 ghost use Rattle.planner.specs.Edits.{Edits};
 ghost use Rattle.planner.specs.declared.Change.the-variants.{Insert, Delete, Replace};
@@ -84,7 +84,7 @@ pub extern "C" fn foldplover_replace(
 pub extern "C" fn foldplover_check(sheet: &[u8], work: &mut [u8]) -> u32
     ensures { λ r. ⌜ Coded (λ q. Checks (now (sheet .entry)) (now (work .entry)) q (now (work .exit))) r ⌝ }
 {
-    answer_number(listing::check(sheet, work))
+    answer_number(checking::check(sheet, work))
 }
 
 #[no_mangle]
@@ -105,28 +105,28 @@ pub extern "C" fn foldplover_gate_list(sheet: &[u8], list: &mut [u8], work: &mut
 pub extern "C" fn foldplover_split(order: &[u8], a: &mut [u8], b: &mut [u8]) -> u32
     ensures { λ r. ⌜ Coded (λ q. Split (now (order .entry)) (now (a .entry)) (now (b .entry)) q (now (a .exit)) (now (b .exit))) r ⌝ }
 {
-    answer_number(sheet::split(order, a, b))
+    answer_number(orders::split(order, a, b))
 }
 
 #[no_mangle]
 pub extern "C" fn foldplover_join(a: &[u8], b: &[u8], order: &mut [u8]) -> u32
     ensures { λ r. ⌜ Coded (λ q. Join (now (a .entry)) (now (b .entry)) (now (order .entry)) q (now (order .exit))) r ⌝ }
 {
-    answer_number(sheet::join(a, b, order))
+    answer_number(orders::join(a, b, order))
 }
 
 #[no_mangle]
 pub extern "C" fn foldplover_rule(bytes: &[u8], numbers: &mut [u32]) -> u32
     ensures { λ r. ⌜ Coded (λ q. RecordRead (now (bytes .entry)) (now (numbers .entry)) q (now (numbers .exit))) r ⌝ }
 {
-    answer_number(wire::record::rule(bytes, numbers))
+    answer_number(records::rule(bytes, numbers))
 }
 
 #[no_mangle]
 pub extern "C" fn foldplover_record(numbers: &[u32], bytes: &mut [u8]) -> u32
     ensures { λ r. ⌜ Coded (λ q. RecordWritten (now (numbers .entry)) (now (bytes .entry)) q (now (bytes .exit))) r ⌝ }
 {
-    answer_number(wire::record::record(numbers, bytes))
+    answer_number(records::record(numbers, bytes))
 }
 
 fn packet_of(src: u32, dst: u32, sport: u32, dport: u32, proto: u32) -> Packet

@@ -1,4 +1,1 @@
-pub mod Bytes
-pub mod Drafting
-pub mod Checking
 pub mod Listing

@@ -29,7 +29,8 @@ use Rattle.sheet.specs.declared.PairParts.the-variants as P
 use Rattle.sheet.proofs.Sections.{listBytes-length}
 use Rattle.sheet.proofs.Orders.{faultless-fits}
 use Rattle.planner.specs.Calls.{checkOf, Call, cellBytes, gateBytes, gateSize}
-use Rattle.listing.specs.Steps.{CheckRead, boxRecords, boxCount, groupRecords, ListPut}
+use Rattle.checking.specs.Steps.{CheckRead}
+use Rattle.listing.specs.Steps.{boxRecords, boxCount, groupRecords, ListPut}
 use Rattle.planner.proofs.Good.{denials-length, gate-list-good}
 use Rattle.planner.proofs.Calls.{call-done}
 use Rattle.planner.proofs.Finished.{refuses}

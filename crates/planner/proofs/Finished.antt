@@ -44,12 +44,13 @@ use Rattle.draft.specs.declared.Around.{Around}
 use Rattle.draft.proofs.Runs.{held-front}
 use Rattle.draft.proofs.Laid.{groups-laid}
 use Rattle.wire.specs.Lists.{listSize}
+use Rattle.wire.proofs.Buffers.{refusal-leaves}
 
 -- A refusal writes nothing.
 pub refuses : {A : Type 0} (bytes : A → List ℕ) (size : ℕ) (x : Outcome A) (out w w′ : List ℕ) (f : Refusal)
     → x ≡ refused (numberOf f) → drop (workSize limits) w′ ≡ drop (workSize limits) w → Writes bytes size x out w (Refused f) out w′
-unfolding lengthOf written
-refuses bytes size x out w w′ f e b = record { answer = rw e; result = rw e; beyond = b }
+unfolding lengthOf
+refuses bytes size x out w w′ f e b = record { answer = rw e; result = refusal-leaves bytes size out e; beyond = b }
 
 -- groups worked out anew from rules without fault are proper
 stretch-proper : (i to : ℕ) (rules : List ℕ) → i ≤ to → faults (rulesIn to rules) ≡ 0 → Each ProperGroup (map boxesOf (stretch i to rules))

@@ -1,20 +1,18 @@
 // Long runs of edits, each against a fresh move of the lists as the accepted edits left them. The edits are drawn from fixed
 // seeds; after every edit, accepted or refused, the number and all bytes of the pair sheet are compared.
-mod draws;
-mod orders;
-
 use draws::DELETE;
 use draws::Edit;
 use draws::INSERT;
 use draws::Shape;
+use draws::order;
+use draws::order::LISTS_BYTES;
+use draws::order::part;
 use filter::REFUSAL_BASE;
 use foldplover::foldplover_delete;
 use foldplover::foldplover_insert;
 use foldplover::foldplover_move;
 use foldplover::foldplover_replace;
 use groups::WORK_BYTES;
-use orders::LISTS_BYTES;
-use orders::part;
 use policy::BOX_BYTES;
 use policy::RECORD_BYTES;
 use printing::print_number;
@@ -85,13 +83,13 @@ fn moved(order: &[u8], n: usize, sheet: &mut [u8]) -> u32 {
 
 // The number that an edit is to be answered with: a fresh move's, wherever there are edited lists.
 fn wanted(order: &[u8], e: Edit, next: &mut [u8], fresh: &mut [u8]) -> u32 {
-    if !orders::has_place(order, e) {
+    if !order::has_place(order, e) {
         return NO_PLACE;
     }
     if e.kind != DELETE && e.size != RECORD_BYTES {
         return NO_RECORD;
     }
-    let n = orders::edit_order(order, e, next);
+    let n = order::edit_order(order, e, next);
     moved(next, n, fresh)
 }
 
@@ -165,7 +163,7 @@ fn play_edit(
 
 // The first lists moved; the pair sheet's length.
 fn begin(order: &mut [u8], sheet: &mut [u8], kept: &mut [u8]) -> usize {
-    let n = orders::first_order(order);
+    let n = order::first_order(order);
     let answer = moved(order, n, sheet);
     take_over(answer, sheet, kept);
     length_after(0, answer)
@@ -194,53 +192,44 @@ fn play_edits(
     done
 }
 
-fn print_count(n: u32, text: &[u8]) {
+fn print_count(n: u32) {
+    print_text(b" ");
     print_number(n as usize);
-    print_text(text);
 }
 
-fn print_tally(tally: &[u32], i: usize, text: &[u8]) {
-    if i < tally.len() {
-        print_count(tally[i], text);
+// The counts of the tally from one place up to another.
+fn print_counts(tally: &[u32], from: usize, to: usize) {
+    let mut i = from;
+    while i < to {
+        if i < tally.len() {
+            print_count(tally[i]);
+        }
+        i += 1;
     }
 }
 
-fn print_list(tally: &[u32], from: usize) {
-    if from < TALLIES {
-        print_tally(tally, from, b" inserts, ");
-        print_tally(tally, from + 1, b" deletes, ");
-        print_tally(tally, from + 2, b" replaces, ");
-        print_tally(tally, from + 3, b" denies and ");
-        print_tally(tally, from + 4, b" allows put in; ");
+// Whether the run came to its end without a difference.
+fn print_end(shape: Shape, done: u32) {
+    print_count(done);
+    if done < shape.edits {
+        print_text(b" edits, then one that differs");
+        return;
     }
-}
-
-fn print_refused(tally: &[u32]) {
-    print_tally(tally, 2, b" with 2, ");
-    print_tally(tally, 3, b" with 3, ");
-    print_tally(tally, 4, b" with 4, ");
-    print_tally(tally, 5, b" with 5, ");
-    print_tally(tally, 6, b" with 6, ");
-    print_tally(tally, 7, b" with 7, ");
-    print_tally(tally, 9, b" with 9; ");
+    print_text(b" edits, 0 differ");
 }
 
 fn print_run(shape: Shape, tally: &[u32], done: u32) {
-    print_text(b"seed ");
-    print_count(shape.seed, b": ");
-    print_count(done, b" edits, ");
-    print_tally(tally, 0, b" accepted: A ");
-    print_list(tally, BY_LIST);
-    print_text(b"B ");
-    print_list(tally, BY_LIST + LIST_TALLIES);
-    print_text(b"refused ");
-    print_refused(tally);
-    if done < shape.edits {
-        print_text(b"1 differ, at edit ");
-        print_count(done, b" from 0\n");
-        return;
-    }
-    print_text(b"0 differ\n");
+    print_text(b"seed");
+    print_count(shape.seed);
+    print_text(b":");
+    print_end(shape, done);
+    print_text(b"; accepted, refused with 1 to 9:");
+    print_counts(tally, 0, BY_LIST);
+    print_text(b"; inserts, deletes, replaces, denies and allows put in: A");
+    print_counts(tally, BY_LIST, BY_LIST + LIST_TALLIES);
+    print_text(b", B");
+    print_counts(tally, BY_LIST + LIST_TALLIES, TALLIES);
+    print_text(b"\n");
 }
 
 fn play(shape: Shape) {

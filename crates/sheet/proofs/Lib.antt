@@ -10,6 +10,3 @@ pub mod OrderReader
 pub mod GroupReader
 pub mod PairReader
 pub mod Accepted
-pub mod Splits
-pub mod Joins
-pub mod Undo

@@ -2,5 +2,3 @@ pub mod Sections
 pub mod Orders
 pub mod Pairs
 pub mod Readers
-pub mod Split
-pub mod Join

@@ -1,5 +1,4 @@
-// Readers of sections, of order sheets, pair sheets and lists, and the calls that split an order sheet and join one.
-use policy::Answer;
+// Readers of sections, of order sheets, pair sheets and lists.
 use policy::BOX_BYTES;
 use policy::COUNT_BYTES;
 use policy::GATE_MOST;
@@ -8,7 +7,6 @@ use policy::RECORD_BYTES;
 use policy::Refusal;
 use policy::TOTAL_MOST;
 ghost use mathlib.Core.Path.{_≡_};
-ghost use mathlib.Core.List.{_++_};
 ghost use Prim.Native.Nat.{_+_, _≤_};
 ghost use lib.ListN.{length, drop};
 ghost use Rattle.lists.specs.Lists.{every};
@@ -16,12 +14,9 @@ ghost use Rattle.policy.specs.Fields.{highest, countSize};
 ghost use Rattle.policy.specs.Ranges.{proper};
 ghost use Rattle.policy.specs.Rules.{sound, denies};
 ghost use Rattle.wire.specs.Records.{boxesIn};
-ghost use Rattle.wire.specs.Buffers.{filled};
 ghost use Rattle.wire.specs.Lists.{listSize};
 ghost use Rattle.sheet.specs.Pairs.{groupSize};
 ghost use Rattle.sheet.specs.Readers.{rulesOf, SectionRead, ListRead, ListsRead, OrderRead, GroupsRead, PairRead};
-ghost use Rattle.sheet.specs.Split.{Split};
-ghost use Rattle.sheet.specs.Join.{Join};
 
 // The largest A list, B list, order sheet and pair sheet.
 pub const GATE_BYTES: usize = COUNT_BYTES + RECORD_BYTES * GATE_MOST;
@@ -297,57 +292,5 @@ pub fn read_pair(s: &[u8]) -> PairParts
                 }
             }
         }
-    }
-}
-
-// An order sheet into its A list and its B list; the answer is the length of the A list.
-pub fn split(sheet: &[u8], a: &mut [u8], b: &mut [u8]) -> Answer
-    ensures { λ r. ⌜ Split (now (sheet .entry)) (now (a .entry)) (now (b .entry)) r (now (a .exit)) (now (b .exit)) ⌝ }
-{
-    if a.len() < GATE_BYTES {
-        return Answer::Refused(Refusal::BufferShort);
-    }
-    if b.len() < OWN_BYTES {
-        return Answer::Refused(Refusal::BufferShort);
-    }
-    match read_order(sheet) {
-        OrderParts::Fault(f) => Answer::Refused(f),
-        OrderParts::Parts {
-            gate: _,
-            own: _,
-            middle,
-        } => {
-            wire::fill(a, GATE_BYTES, &sheet[..middle]);
-            wire::fill(b, OWN_BYTES, &sheet[middle..]);
-            Answer::Length(middle)
-        }
-    }
-}
-
-// Two contents one behind the other, and zero behind them up to an end.
-fn fill_both(out: &mut [u8], end: usize, first: &[u8], second: &[u8])
-    requires { ⌜ (length (now first) + length (now second) ≤ end) × (end ≤ length (now out)) ⌝ }
-    ensures { λ r. ⌜ now (out .exit) ≡ filled end (now (out .entry)) (now (first .entry) ++ now (second .entry)) ⌝ }
-{
-    let middle = bytes::copy(first, out);
-    wire::fill(&mut out[middle..], end - middle, second);
-}
-
-// An order sheet from its A list and its B list; the answer is its length.
-pub fn join(a: &[u8], b: &[u8], sheet: &mut [u8]) -> Answer
-    ensures { λ r. ⌜ Join (now (a .entry)) (now (b .entry)) (now (sheet .entry)) r (now (sheet .exit)) ⌝ }
-{
-    if sheet.len() < ORDER_BYTES {
-        return Answer::Refused(Refusal::BufferShort);
-    }
-    match read_list(a, GATE_MOST) {
-        Section::Fault(f) => Answer::Refused(f),
-        Section::Rules { count: _, next: _ } => match read_list(b, OWN_MOST) {
-            Section::Fault(f) => Answer::Refused(f),
-            Section::Rules { count: _, next: _ } => {
-                fill_both(sheet, ORDER_BYTES, a, b);
-                Answer::Length(a.len() + b.len())
-            }
-        },
     }
 }

@@ -1,4 +1,4 @@
--- Laws on zeroing and filling. Assumes nothing.
+-- Laws on zeroing, filling and what a refusal leaves. Assumes nothing.
 use mathlib.Core.Path.{_≡_, refl, ap, sym, _∙_}
 use mathlib.Core.List.{List, [], _∷_, _++_, append-assoc}
 use Prim.Native.Nat.{ℕ, suc, _+_, _-_, _<_, _≤_}
@@ -6,7 +6,8 @@ use native.Mathlib.Omega.{arith}
 use native.Mathlib.Numerals.{add-one}
 use lib.ListN.{length, take, drop, getD, set, replicate, length-append, length-replicate, replicate-append-replicate, take-append-drop}
 use lib.Seq.{sets, sets-eq, take-all, take-at, drop-at, drop-append-add, drop-cons, drop-drop, set-at, length-take-le, append-snoc}
-use Rattle.wire.specs.Buffers.{zeroed, filled}
+use Rattle.policy.specs.Refusals.{Outcome, refused}
+use Rattle.wire.specs.Buffers.{zeroed, filled, written}
 
 pub zeroed-none : (from : ℕ) (s : List ℕ) → s ≡ zeroed from from s
 unfolding zeroed
@@ -55,3 +56,8 @@ filled-front size out content e h =
     let n : size - length content ≡ 0 = omega arith in
     let m : 0 + length content ≡ size = omega arith in
     sets-eq content out 0 (omega arith) ∙ rw (n, m) refl
+
+-- A refusal leaves what was lent as it was.
+pub refusal-leaves : {A : Type 0} (bytes : A → List ℕ) (end : ℕ) (out : List ℕ) {x : Outcome A} {n : ℕ} → x ≡ refused n → out ≡ written bytes end out x
+unfolding written
+refusal-leaves bytes end out e = rw e refl

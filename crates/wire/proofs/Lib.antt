@@ -3,4 +3,3 @@ pub mod Items
 pub mod Records
 pub mod Buffers
 pub mod Steps
-pub mod RecordCalls

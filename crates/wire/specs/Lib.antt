@@ -2,4 +2,3 @@ pub mod Numbers
 pub mod Records
 pub mod Lists
 pub mod Buffers
-pub mod RecordCalls

@@ -1,5 +1,4 @@
 // Numbers, boxes and records in bytes, and the zeroing and filling of lent bytes.
-pub mod record;
 
 use policy::BOX_BYTES;
 use policy::Box;

@@ -4,7 +4,7 @@ use Rattle.policy.specs.Fields.{limits}
 use Rattle.groups.specs.Worked.{workSize}
 use Rattle.planner.specs.Calls.{checkOf, cellBytes, cellSize}
 use Rattle.planner.proofs.Calls.{room-short, work-short, both-there, call-short}
-use Rattle.listing.proofs.Checking.{check-place}
+use Rattle.checking.proofs.Checking.{check-place}
 use Rattle.listing.proofs.Listing.{list-refused, list-written}
 use Rattle.listing.proofs.cell_list.Statement.{statement}
 use Rattle.listing.proofs.cell_list.Tie as tie

@@ -1,0 +1,126 @@
+-- What each arm of a check gives: the pair sheet refused, 6, 8, or its parts; and two outcomes of one check are equal.
+-- Assumes nothing.
+use mathlib.Core.Path.{_≡_, refl, ap, sym, _∙_}
+use mathlib.Core.List.{List}
+use mathlib.Core.Bool.{Bool, true, false}
+use Prim.Native.Nat.{ℕ, _+_, _-_, _<_, _≤_}
+use native.Mathlib.Omega.{arith}
+use lib.ListN.{length, take, drop}
+use borrow.Author.Tests.{lt-leb}
+use Rattle.policy.specs.Fields.{countSize, limits}
+use Rattle.policy.specs.Ranges.{Region}
+use Rattle.policy.specs.Refusals.{accepted, refused, numberOf}
+use Rattle.policy.specs.Move.{together, work, Order, Pair, moved}
+use Rattle.policy.specs.Check.{sameGroups, checkRefusal}
+use Rattle.policy.specs.declared.Answer.{Answer}
+use Rattle.policy.specs.declared.Answer.the-variants.{Length, Refused}
+use Rattle.policy.specs.declared.Refusal.{Refusal}
+use Rattle.policy.specs.declared.Refusal.the-variants.{BufferShort, TooManyPieces, GroupsDiffer}
+use Rattle.policy.proofs.Answers.{said-once}
+use Rattle.policy.proofs.Checks.{groups-sound, groups-self}
+use Rattle.wire.specs.Buffers.{zeroed}
+use Rattle.groups.specs.Worked.{workSize}
+use Rattle.sheet.specs.Pairs.{groupsBytes, pairIn, pairBytes}
+use Rattle.sheet.specs.Readers.{listsOf, pairOf, pairHeard, PairPlace, PairPlaced}
+use Rattle.sheet.specs.declared.PairParts.the-variants as P
+use Rattle.sheet.proofs.Pairs.{pair-back}
+use Rattle.sheet.proofs.Accepted.{PairAccepted}
+use Rattle.draft.specs.Drafts.{DraftedGroups, draftSize}
+use Rattle.draft.specs.declared.Drafted.the-variants as D
+use Rattle.planner.specs.Calls.{roomFor, workAfter, checkedOf, checkOf, yes, Checks}
+use Rattle.checking.specs.Steps.{SameGroups, CheckRead}
+use Rattle.planner.proofs.Good.{moved-good}
+use Rattle.planner.proofs.Calls.{room-there}
+use Rattle.checking.proofs.Drafting.{ListsSound, draft-over, draft-light, draft-boxes, draft-moves, draft-end, draft-content}
+
+pub check-refused : {s : List ℕ} {f : Refusal} → pairIn limits s ≡ refused (numberOf f) → CheckRead s (P.Fault f)
+unfolding checkOf pairHeard PairPlaced
+check-refused e = record { says = rw e; place = tt }
+
+-- where the parts lie
+pub check-place : {s : List ℕ} {n m middle third boxes : ℕ} → CheckRead s (P.Parts n m middle third boxes) → PairPlace s n m middle third boxes
+unfolding PairPlaced
+check-place x = x .place
+
+-- a test that cannot hold is false
+test-fails : (t : Bool) → (t ≡ true → ⊥) → t ≡ false
+test-fails true f = absurd (f refl)
+test-fails false f = refl
+
+module _ {s : List ℕ} {n m middle third boxes : ℕ} (a : PairAccepted s n m middle third boxes) where
+  abbrev p : Pair
+  p = pairOf n m middle third s
+
+  abbrev o : Order
+  o = listsOf n m middle s
+
+  pub check-lists : ListsSound s n m middle third
+  check-lists = record { place = a .place .lists; gate = a .good .gate; own = a .good .own }
+
+  pub lists-inside : countSize ≤ length s
+  lists-inside = omega (arith, a .place .lists .gateEnd, a .place .lists .ownEnd, a .place .lists .inside)
+
+  module _ (rules : List ℕ) (is : rules ≡ drop countSize s) {draft w draft′ w′ : List ℕ} where
+    pub check-six : DraftedGroups rules 0 n draft 0 0 w D.TooManyPieces draft′ w′ → CheckRead s (P.Fault TooManyPieces)
+    unfolding checkOf checkedOf checkRefusal work pairHeard PairPlaced
+    check-six x = record { says = rw (a .reads, draft-over check-lists rules is x); place = tt }
+
+    module _ {b end : ℕ} (x : DraftedGroups rules 0 n draft 0 0 w (D.Groups b end) draft′ w′) where
+      differs : (p .groups ≡ moved o .groups → ⊥) → CheckRead s (P.Fault GroupsDiffer)
+      unfolding checkOf checkedOf checkRefusal work pairHeard PairPlaced
+      differs f =
+          let e = test-fails (sameGroups (p .groups) (moved o .groups)) (λ t. f (groups-sound (p .groups) (moved o .groups) t)) in
+          record { says = rw (a .reads, draft-light check-lists rules is x, e); place = tt }
+
+      pub check-long : draftSize limits ≤ length draft → b ≡ boxes → end ≤ length draft
+      check-long roomy h = draft-end check-lists rules is x (omega (arith, a .place .totalLimit)) roomy
+
+      -- the two pairs have the same bytes, and each is read back from them
+      module _ (roomy : draftSize limits ≤ length draft) where
+        content : b ≡ boxes → take end draft′ ≡ groupsBytes (moved o .groups)
+        content h = draft-content check-lists rules is x (omega (arith, a .place .totalLimit)) roomy
+
+        same : b ≡ boxes → take end draft′ ≡ drop (third + countSize) s → p ≡ moved o
+        unfolding pairBytes
+        same h e =
+            let g = moved-good limits o (draft-moves check-lists rules is x (omega (arith, a .place .totalLimit))) in
+            let c : length (p .groups) ≡ length (moved o .groups) = a .good .counted ∙ sym (g .counted) in
+            let q : groupsBytes (p .groups) ≡ groupsBytes (moved o .groups) = a .groupBytes ∙ (sym e ∙ content h) in
+            let k : pairBytes p ≡ pairBytes (moved o) = rw (c, q) in
+            let u = pair-back limits p (omega arith) (omega arith) (omega arith) (a .good) in
+            let v = pair-back limits (moved o) (omega arith) (omega arith) (omega arith) g in
+            let z : accepted p ≡ accepted (moved o) = sym u ∙ (ap (pairIn limits) k ∙ v) in
+            cc
+
+        module _ {t : Bool} (found : SameGroups s (third + countSize) boxes draft′ b end t) where
+          pub check-differs : t ≡ false → CheckRead s (P.Fault GroupsDiffer)
+          check-differs f =
+              differs (λ e.
+              let h : b ≡ boxes = draft-boxes check-lists rules is x ∙ (ap (λ (g : List (List Region)). length (together g)) (sym e) ∙ sym (a .place .boxesAre)) in
+              found .no f h (content h ∙ (ap groupsBytes (sym e) ∙ a .groupBytes)))
+
+          pub check-passes : t ≡ true → CheckRead s (P.Parts n m middle third boxes)
+          unfolding checkOf checkedOf checkRefusal work pairHeard PairPlaced
+          check-passes f =
+              let y = found .yes f in
+              let e = same (y .0) (y .1) in
+              let k : sameGroups (p .groups) (moved o .groups) ≡ true = ap (λ (q : Pair). sameGroups (q .groups) (moved o .groups)) e ∙ groups-self (moved o .groups) in
+              record { says = rw (a .reads, draft-light check-lists rules is x, k); place = a .place }
+
+-- The call: 1 unless the work buffer is long enough, then what the check came to.
+module _ (s w : List ℕ) where
+  pub check-short : length w < workSize limits → Checks s w (Refused BufferShort) w
+  unfolding roomFor workAfter yes
+  check-short h = let e = lt-leb (workSize limits) (length w) h in record { answer = rw e; work = rw e }
+
+  module _ (h : workSize limits ≤ length w) {w′ : List ℕ} (e : w′ ≡ zeroed 0 (workSize limits) w) where
+    pub check-no : {f : Refusal} → CheckRead s (P.Fault f) → Checks s w (Refused f) w′
+    unfolding workAfter yes pairHeard
+    check-no x = let l = room-there (workSize limits) w h in record { answer = rw (l, ← x .says); work = rw l e }
+
+    pub check-yes : {n m middle third boxes : ℕ} → CheckRead s (P.Parts n m middle third boxes) → Checks s w (Length 0) w′
+    unfolding workAfter yes pairHeard
+    check-yes x = let l = room-there (workSize limits) w h in record { answer = rw (l, ← x .says); work = rw l e }
+
+  pub check-once : {r q : Answer} {u v : List ℕ} → Checks s w r u → Checks s w q v → (r ≡ q) × (u ≡ v)
+  check-once {r = r} {q = q} x y = (said-once r q (x .answer ∙ sym (y .answer)), x .work ∙ sym (y .work))
