@@ -31,7 +31,7 @@ use Rattle.planner.specs.Calls.{roomFor, workAfter, checkedOf, checkOf, yes, Ch
 use Rattle.checking.specs.Steps.{SameGroups, CheckRead}
 use Rattle.planner.proofs.Good.{moved-good}
 use Rattle.planner.proofs.Calls.{room-there}
-use Rattle.checking.proofs.Drafting.{ListsSound, draft-over, draft-light, draft-boxes, draft-moves, draft-end, draft-content}
+use Rattle.checking.proofs.Drafting.{draft-over, draft-light, draft-boxes, draft-moves, draft-end, draft-content}
 
 pub check-refused : {s : List ℕ} {f : Refusal} → pairIn limits s ≡ refused (numberOf f) → CheckRead s (P.Fault f)
 unfolding checkOf pairHeard PairPlaced
@@ -54,36 +54,33 @@ module _ {s : List ℕ} {n m middle third boxes : ℕ} (a : PairAccepted s n m m
   abbrev o : Order
   o = listsOf n m middle s
 
-  pub check-lists : ListsSound s n m middle third
-  check-lists = record { place = a .place .lists; gate = a .good .gate; own = a .good .own }
-
   pub lists-inside : countSize ≤ length s
   lists-inside = omega (arith, a .place .lists .gateEnd, a .place .lists .ownEnd, a .place .lists .inside)
 
   module _ (rules : List ℕ) (is : rules ≡ drop countSize s) {draft w draft′ w′ : List ℕ} where
     pub check-six : DraftedGroups rules 0 n draft 0 0 w D.TooManyPieces draft′ w′ → CheckRead s (P.Fault TooManyPieces)
     unfolding checkOf checkedOf checkRefusal work pairHeard PairPlaced
-    check-six x = record { says = rw (a .reads, draft-over check-lists rules is x); place = tt }
+    check-six x = record { says = rw (a .reads, draft-over a rules is x); place = tt }
 
     module _ {b end : ℕ} (x : DraftedGroups rules 0 n draft 0 0 w (D.Groups b end) draft′ w′) where
       differs : (p .groups ≡ moved o .groups → ⊥) → CheckRead s (P.Fault GroupsDiffer)
       unfolding checkOf checkedOf checkRefusal work pairHeard PairPlaced
       differs f =
           let e = test-fails (sameGroups (p .groups) (moved o .groups)) (λ t. f (groups-sound (p .groups) (moved o .groups) t)) in
-          record { says = rw (a .reads, draft-light check-lists rules is x, e); place = tt }
+          record { says = rw (a .reads, draft-light a rules is x, e); place = tt }
 
       pub check-long : draftSize limits ≤ length draft → b ≡ boxes → end ≤ length draft
-      check-long roomy h = draft-end check-lists rules is x (omega (arith, a .place .totalLimit)) roomy
+      check-long roomy h = draft-end a rules is x (omega (arith, a .place .totalLimit)) roomy
 
       -- the two pairs have the same bytes, and each is read back from them
       module _ (roomy : draftSize limits ≤ length draft) where
         content : b ≡ boxes → take end draft′ ≡ groupsBytes (moved o .groups)
-        content h = draft-content check-lists rules is x (omega (arith, a .place .totalLimit)) roomy
+        content h = draft-content a rules is x (omega (arith, a .place .totalLimit)) roomy
 
         same : b ≡ boxes → take end draft′ ≡ drop (third + countSize) s → p ≡ moved o
         unfolding pairBytes
         same h e =
-            let g = moved-good limits o (draft-moves check-lists rules is x (omega (arith, a .place .totalLimit))) in
+            let g = moved-good limits o (draft-moves a rules is x (omega (arith, a .place .totalLimit))) in
             let c : length (p .groups) ≡ length (moved o .groups) = a .good .counted ∙ sym (g .counted) in
             let q : groupsBytes (p .groups) ≡ groupsBytes (moved o .groups) = a .groupBytes ∙ (sym e ∙ content h) in
             let k : pairBytes p ≡ pairBytes (moved o) = rw (c, q) in
@@ -96,7 +93,7 @@ module _ {s : List ℕ} {n m middle third boxes : ℕ} (a : PairAccepted s n m m
           pub check-differs : t ≡ false → CheckRead s (P.Fault GroupsDiffer)
           check-differs f =
               differs (λ e.
-              let h : b ≡ boxes = draft-boxes check-lists rules is x ∙ (ap (λ (g : List (List Region)). length (together g)) (sym e) ∙ sym (a .place .boxesAre)) in
+              let h : b ≡ boxes = draft-boxes a rules is x ∙ (ap (λ (g : List (List Region)). length (together g)) (sym e) ∙ sym (a .place .boxesAre)) in
               found .no f h (content h ∙ (ap groupsBytes (sym e) ∙ a .groupBytes)))
 
           pub check-passes : t ≡ true → CheckRead s (P.Parts n m middle third boxes)
@@ -105,7 +102,7 @@ module _ {s : List ℕ} {n m middle third boxes : ℕ} (a : PairAccepted s n m m
               let y = found .yes f in
               let e = same (y .0) (y .1) in
               let k : sameGroups (p .groups) (moved o .groups) ≡ true = ap (λ (q : Pair). sameGroups (q .groups) (moved o .groups)) e ∙ groups-self (moved o .groups) in
-              record { says = rw (a .reads, draft-light check-lists rules is x, k); place = a .place }
+              record { says = rw (a .reads, draft-light a rules is x, k); place = a .place }
 
 -- The call: 1 unless the work buffer is long enough, then what the check came to.
 module _ (s w : List ℕ) where

@@ -1,5 +1,5 @@
--- What drafting the groups of all of A gives, whichever call does it: 6; or how many boxes there are and, while they are
--- within the total together with the own rules, the bytes of the moved pair's groups. Assumes nothing.
+-- What drafting the groups of all of A of a pair sheet gives: 6; or how many boxes there are and, while they are within the
+-- total together with the own rules, the bytes of the moved pair's groups. Assumes nothing.
 use mathlib.Core.Path.{_≡_}
 use mathlib.Core.List.{List, []}
 use mathlib.Core.Bool.{true, false}
@@ -10,15 +10,16 @@ use borrow.Author.Tests.{le-ltb}
 use Rattle.policy.specs.Fields.{countSize, limits}
 use Rattle.policy.specs.Rules.{allowsIn}
 use Rattle.policy.specs.Refusals.{accepted}
-use Rattle.policy.specs.Move.{slotsOf, startOf, together, anyOver, work, room, Order, moved, listRefusal, moveRefusal}
+use Rattle.policy.specs.Move.{slotsOf, startOf, together, anyOver, work, room, Order, moved, moveRefusal}
 use Rattle.policy.specs.declared.Refusal.the-variants.{TooManyPieces}
 use Rattle.policy.proofs.Numbers.{orElse-both}
 use Rattle.wire.specs.Records.{rulesIn}
 use Rattle.wire.proofs.Records.{rulesIn-length}
 use Rattle.groups.specs.Worked.{workSize}
 use Rattle.sheet.specs.Pairs.{groupsBytes}
-use Rattle.sheet.specs.Readers.{rulesOf, listsOf, ListsPlace}
+use Rattle.sheet.specs.Readers.{rulesOf, listsOf}
 use Rattle.sheet.proofs.Outcomes.{faultless}
+use Rattle.sheet.proofs.Accepted.{PairAccepted}
 use Rattle.sheet.proofs.Pairs.{ProperGroup, denies-most}
 use Rattle.lists.specs.Lists.{Each}
 use Rattle.policy.proofs.Edits.{slots-length}
@@ -27,13 +28,7 @@ use Rattle.draft.specs.declared.Drafted.the-variants as D
 use Rattle.draft.proofs.Drawn.{drawn-over, drawn-light, drawn-boxes, drawn-end, drawn-content}
 use Rattle.planner.proofs.Good.{moved-good}
 
--- A and B of a sheet, as reading has found them.
-pub record ListsSound (s : List ℕ) (n m middle third : ℕ) : Type 0 where
-  pub place : ListsPlace s n m middle third
-  pub gate : listRefusal (limits .gate) (rulesOf n s) ≡ 0
-  pub own : listRefusal (limits .own) (rulesOf m (drop middle s)) ≡ 0
-
-module _ {s : List ℕ} {n m middle third : ℕ} (a : ListsSound s n m middle third) where
+module _ {s : List ℕ} {n m middle third boxes : ℕ} (a : PairAccepted s n m middle third boxes) where
   abbrev o : Order
   o = listsOf n m middle s
 
@@ -44,8 +39,8 @@ module _ {s : List ℕ} {n m middle third : ℕ} (a : ListsSound s n m middle th
 
   pub draft-ready : (rules draft w : List ℕ) → rules ≡ drop countSize s → draftSize limits ≤ length draft → workSize limits ≤ length w → Ready rules 0 n draft 0 0 w
   draft-ready rules draft w e d k =
-      let p = a .place in
-      let f = faultless (limits .gate) (rulesOf n s) (a .gate) in
+      let p = a .place .lists in
+      let f = faultless (limits .gate) (rulesOf n s) (a .good .gate) in
       record {
         records = rw (e, length-drop) (omega (arith, p .gateEnd, p .ownEnd, p .inside));
         rulesSound = rw e (f .sounds);
@@ -76,7 +71,7 @@ module _ {s : List ℕ} {n m middle third : ℕ} (a : ListsSound s n m middle th
         unfolding moveRefusal room work
         draft-moves =
             let t : length (together (moved o .groups)) + length (o .own) ≤ limits .total = omega (arith, draft-boxes, rulesIn-length m (drop countSize (drop middle s))) in
-            orElse-both _ _ (a .gate) (orElse-both _ _ (a .own) (rw (draft-light, le-ltb _ _ t)))
+            orElse-both _ _ (a .good .gate) (orElse-both _ _ (a .good .own) (rw (draft-light, le-ltb _ _ t)))
 
         module _ (roomy : draftSize limits ≤ length draft) where
           proper : Each ProperGroup (moved o .groups)
@@ -86,7 +81,7 @@ module _ {s : List ℕ} {n m middle third : ℕ} (a : ListsSound s n m middle th
           few = omega arith
 
           short : length (slotsOf o) ≤ limits .gate
-          short = omega (arith, slots-length (startOf o) [] (o .gate), denies-most (o .gate), rulesIn-length n (drop countSize s), a .place .gateLimit)
+          short = omega (arith, slots-length (startOf o) [] (o .gate), denies-most (o .gate), rulesIn-length n (drop countSize s), a .place .lists .gateLimit)
 
           pub draft-end : end ≤ length draft
           draft-end = drawn-end drafting few proper short roomy

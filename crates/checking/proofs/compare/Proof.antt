@@ -12,7 +12,7 @@ use Rattle.wire.proofs.Numbers.{bytes-all}
 use Rattle.sheet.proofs.Accepted.{PairAccepted, pair-refused, pair-accepted}
 use Rattle.draft.specs.Drafts.{draftSize}
 use Rattle.checking.proofs.Drafting.{draft-ready}
-use Rattle.checking.proofs.Checking.{check-refused, check-lists, lists-inside, check-six, check-long, check-differs, check-passes}
+use Rattle.checking.proofs.Checking.{check-refused, lists-inside, check-six, check-long, check-differs, check-passes}
 use Rattle.checking.proofs.compare.Statement.{statement}
 use Rattle.checking.proofs.compare.Tie as tie
 
@@ -55,7 +55,7 @@ part-draft-groups-end c = search needs
 draft-groups-requires : tie.Need-draft-groups-requires
 draft-groups-requires c κs =
     let g = c .before .before .before .before in
-    draft-ready (check-lists (read g)) _ _ _ (rules g) (room g) (g .before .before .before .before .before .before .pre .1)
+    draft-ready (read g) _ _ _ (rules g) (room g) (g .before .before .before .before .before .before .pre .1)
 
 enum-told : tie.Need-enum-told
 enum-told c = search needs

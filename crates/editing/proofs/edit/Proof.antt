@@ -39,9 +39,10 @@ same-length-2 c = search needs
 
 returns-4 : tie.Need-returns-4
 returns-4 c =
-    let a = c .before .before .before .before .before .before .before .before .before .before .before .before .before .before .before .before .before .args in
-    call-done pairBytes (pairSize limits) _ (editedOf limits (take (a .used) (a .sheet .now)) (asked (a .list) (a .place) (a .change) (a .new .now))) (a .sheet .now) (a .work .now) (edit-lent (a .sheet .now) (a .used) (a .work .now) (c .before .before .before .before .before .before .before .before .before .before .before .before .before .if1 .left) (c .before .before .before .before .before .before .before .before .before .before .before .before .if2 .left) (c .before .before .before .before .before .before .before .before .before .before .before .if3 .left))
-    (c .before .before .before .before .before .before .before .before .revise .ensures) (c .before .before .zero .ensures)
+    let z : tie.After-zero = c .before .before in
+    let a = z .before .before .before .before .before .before .before .before .before .before .before .before .before .before .before .args in
+    call-done pairBytes (pairSize limits) _ (editedOf limits (take (a .used) (a .sheet .now)) (asked (a .list) (a .place) (a .change) (a .new .now))) (a .sheet .now) (a .work .now) (edit-lent (a .sheet .now) (a .used) (a .work .now) (z .before .before .before .before .before .before .before .before .before .before .before .if1 .left) (z .before .before .before .before .before .before .before .before .before .before .if2 .left) (z .before .before .before .before .before .before .before .before .before .if3 .left))
+    (z .before .before .before .before .before .before .revise .ensures) (z .zero .ensures)
 
 pub edit-spec : {M : Type 1} → statement M
 edit-spec =
