@@ -12,7 +12,7 @@ use Rattle.wire.specs.Records.{Fits, boxesBytes}
 use Rattle.wire.proofs.Records.{proper-fits, boxesBytes-length}
 use Rattle.wire.proofs.Numbers.{numberBytes-length}
 use Rattle.sheet.specs.Pairs.{groupBytes, groupsBytes}
-use Rattle.sheet.proofs.Counts.{counted}
+use Rattle.wire.proofs.Counts.{counted}
 use Rattle.sheet.proofs.Pairs.{ProperGroup}
 use Rattle.draft.specs.Sheets.{Laid}
 use Rattle.lists.proofs.Lists.{each-every}

@@ -21,7 +21,7 @@ use Rattle.wire.specs.Records.{recordBytes, recordsBytes, ruleIn}
 use Rattle.wire.proofs.Records.{RuleFits, rulesIn-length, record-written-back}
 use Rattle.sheet.specs.Orders.{orderBytes, orderSize}
 use Rattle.sheet.specs.Readers.{rulesOf, listsOf}
-use Rattle.sheet.proofs.Sections.{listBytes-length}
+use Rattle.wire.proofs.Lists.{listBytes-length}
 use Rattle.sheet.proofs.Outcomes.{faultless}
 use Rattle.sheet.proofs.Orders.{faultless-fits}
 use Rattle.planner.specs.Edits.{Asked, kindOf, editOf, wholeRecord}

@@ -30,7 +30,7 @@ use Rattle.sheet.specs.Orders.{orderIn, orderBytes, orderSize}
 use Rattle.sheet.specs.Pairs.{pairIn, pairBytes, pairSize}
 use Rattle.sheet.specs.Readers.{rulesOf, listsOf, OrderRead, pairOf}
 use Rattle.sheet.specs.declared.OrderParts.the-variants.{Parts}
-use Rattle.sheet.proofs.Sections.{listBytes-length}
+use Rattle.wire.proofs.Lists.{listBytes-length}
 use Rattle.sheet.proofs.Orders.{ListFits, faultless-fits, order-back}
 use Rattle.sheet.proofs.Accepted.{PairAccepted, OrderAccepted}
 use Rattle.planner.specs.Steps.{Writes, slotted, partOf, Finishing}

@@ -26,7 +26,7 @@ use Rattle.groups.specs.Worked.{workSize}
 use Rattle.sheet.specs.Pairs.{groupSize, groupBoxes}
 use Rattle.sheet.specs.Readers.{rulesOf, groupsFrom, pairOf, pairHeard, PairPlace}
 use Rattle.sheet.specs.declared.PairParts.the-variants as P
-use Rattle.sheet.proofs.Sections.{listBytes-length}
+use Rattle.wire.proofs.Lists.{listBytes-length}
 use Rattle.sheet.proofs.Orders.{faultless-fits}
 use Rattle.planner.specs.Calls.{checkOf, Call, cellBytes, gateBytes, gateSize}
 use Rattle.checking.specs.Steps.{CheckRead}

@@ -20,7 +20,7 @@ use Rattle.policy.proofs.Edits.{move-accepted, list-accepted, slots-length, fau
 use Rattle.wire.proofs.Numbers.{numberBytes-length}
 use Rattle.sheet.specs.Orders.{orderBytes}
 use Rattle.sheet.specs.Pairs.{pairBytes, pairSize}
-use Rattle.sheet.proofs.Sections.{listBytes-length}
+use Rattle.wire.proofs.Lists.{listBytes-length}
 use Rattle.sheet.proofs.Outcomes.{faultless}
 use Rattle.sheet.proofs.Orders.{faultless-fits}
 use Rattle.draft.proofs.Laid.{groups-length}

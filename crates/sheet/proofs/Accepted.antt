@@ -23,7 +23,7 @@ use Rattle.sheet.specs.declared.OrderParts.{OrderParts}
 use Rattle.sheet.specs.declared.OrderParts.the-variants as O
 use Rattle.sheet.specs.declared.PairParts.{PairParts}
 use Rattle.sheet.specs.declared.PairParts.the-variants as P
-use Rattle.sheet.proofs.Sections.{listBytes-length}
+use Rattle.wire.proofs.Lists.{listBytes-length}
 use Rattle.sheet.proofs.Orders.{faultless-fits, order-faultless, order-written-back, list-faultless, list-written-back}
 use Rattle.sheet.proofs.Pairs.{PairGood, pair-good, pair-written-back}
 use Rattle.wire.specs.Lists.{listSize, listBytes}

@@ -1,6 +1,5 @@
 pub mod Parts
 pub mod Outcomes
-pub mod Counts
 pub mod Sections
 pub mod Orders
 pub mod Pairs

@@ -22,7 +22,7 @@ use Rattle.sheet.specs.Sections.{Reading, reading}
 use Rattle.sheet.specs.Orders.{order, orderBytes}
 use Rattle.sheet.specs.Pairs.{groupSize, groupBoxes, behind, groupsIn, groupSection, pairIn, groupBytes, groupsBytes, pairBytes}
 use Rattle.sheet.specs.Readers.{listsIn}
-use Rattle.sheet.proofs.Counts.{count-back, count-behind, count-written-back, counted, counted-written-back}
+use Rattle.wire.proofs.Counts.{count-back, count-behind, count-written-back, counted, counted-written-back}
 use Rattle.sheet.proofs.Outcomes.{through, faultless}
 use Rattle.sheet.proofs.Orders.{faultless-fits, ended-accepted, behind-lists, lists-faultless, lists-written-back, lists-back}
 use Rattle.lists.proofs.Lists.{each-every}

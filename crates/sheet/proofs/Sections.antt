@@ -4,19 +4,19 @@ use mathlib.Core.List.{List, _++_}
 use Prim.Native.Nat.{ℕ, _+_, _<_, _≤_}
 use native.Mathlib.Omega.{arith}
 use lib.Dec.{leb}
-use lib.ListN.{length, take, drop, length-append, take-append-drop}
+use lib.ListN.{length, take, drop, take-append-drop}
 use borrow.Author.Tests.{le-leb, leb-true}
 use Rattle.lists.specs.Lists.{Each, every}
 use Rattle.policy.specs.Fields.{countSize, recordSize}
 use Rattle.policy.specs.Rules.{Rule, sound, complete}
 use Rattle.policy.specs.Refusals.{accepted, unless}
 use Rattle.policy.specs.Move.{listRefusal}
-use Rattle.wire.specs.Numbers.{numberBytes, Byte}
+use Rattle.wire.specs.Numbers.{Byte}
 use Rattle.wire.specs.Records.{recordsBytes, rulesIn}
-use Rattle.wire.proofs.Numbers.{numberBytes-length}
-use Rattle.wire.proofs.Records.{RuleFits, rulesIn-length, recordsBytes-length, rules-back, records-written-back}
+use Rattle.wire.proofs.Records.{RuleFits, rulesIn-length, recordsBytes-length, rules-back}
 use Rattle.sheet.specs.Sections.{Reading, reading, sectionRules, section}
-use Rattle.sheet.proofs.Counts.{counted, counted-written-back}
+use Rattle.wire.proofs.Counts.{counted}
+use Rattle.wire.proofs.Lists.{list-front}
 use Rattle.sheet.proofs.Outcomes.{list-outcome}
 use Rattle.policy.proofs.Answers.{test-accepted, unless-accepted}
 use Rattle.wire.specs.Lists.{countIn, listSize, listBytes}
@@ -55,19 +55,12 @@ section-good most s r e =
 -- What reads well is what would be written.
 pub section-written-back :
     (most : ℕ) (s : List ℕ) (r : Reading (List Rule)) → Each Byte s → section most s ≡ accepted r → listBytes (r .value) ++ r .rest ≡ s
-unfolding listBytes
 section-written-back most s r b e =
     let a = section-good most s r e in
     let h = a .there in
     let c = a .count in
-    let f : numberBytes countSize (countIn s) ++ recordsBytes (rulesIn (countIn s) (drop countSize s)) ≡ take (listSize (countIn s)) s =
-    counted-written-back recordSize s _ b (omega arith) (λ x l. records-written-back (countIn s) (drop countSize s) l x) in
     let g : rulesIn (countIn s) (drop countSize s) ≡ r .value = ap (λ (n : ℕ). rulesIn n (drop countSize s)) c ∙ sym (a .rules) in
-    rw (← c, ← g, f) (ap (λ (t : List ℕ). take (listSize (countIn s)) s ++ t) (a .rest ∙ ap (λ (n : ℕ). drop (listSize n) s) (sym c)) ∙ take-append-drop (listSize (countIn s)) s)
-
-pub listBytes-length : (rs : List Rule) → Each RuleFits rs → length (listBytes rs) ≡ listSize (length rs)
-unfolding listBytes
-listBytes-length rs h = rw (length-append, numberBytes-length, recordsBytes-length rs h) refl
+    rw (← g, list-front s b (omega arith)) (ap (λ (t : List ℕ). take (listSize (countIn s)) s ++ t) (a .rest ∙ ap (λ (n : ℕ). drop (listSize n) s) (sym c)) ∙ take-append-drop (listSize (countIn s)) s)
 
 -- What is written reads back as itself, or with the number that the list is refused with.
 pub section-back :

@@ -19,7 +19,8 @@ use Rattle.wire.specs.Records.{rulesIn}
 use Rattle.wire.proofs.Records.{RuleFits, sound-fits, rulesIn-length}
 use Rattle.filter.specs.Lookup.{Hit, lookFrom, lookup, refusalBase, lookupNumber}
 use Rattle.filter.specs.Verdicts.{decidedBy}
-use Rattle.filter.proofs.Lists.{listBytes-length, count-back, list-back, look-first}
+use Rattle.filter.proofs.Lists.{look-first}
+use Rattle.wire.proofs.Lists.{listBytes-length, list-count, list-rules}
 use Rattle.filter.proofs.Verdicts.{Small, look-small, tells}
 use Rattle.table.specs.Table.{lookupTable, Storable, Agrees}
 use Rattle.wire.specs.Lists.{listBytes, listSize}
@@ -31,9 +32,9 @@ rules-agree most p l fit few =
     let e = listBytes-length l fit in
     rw (
       le-leb countSize (length (listBytes l)) (omega arith),
-      count-back l fit few,
+      list-count l fit few,
       eq-eqb (length (listBytes l)) (listSize (length l)) e,
-      list-back l fit,
+      list-rules l fit,
     ) refl
 
 -- From bytes to rules.
