@@ -1,6 +1,3 @@
-pub mod Splices
-pub mod Changes
-pub mod Touched
 pub mod Slots
 pub mod Revised
 pub mod Calls

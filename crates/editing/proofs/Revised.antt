@@ -38,11 +38,11 @@ use Rattle.planner.specs.Edits.{Asked, kindOf, editOf, wholeRecord, changeOf, e
 use Rattle.planner.specs.declared.Change.{Change}
 use Rattle.planner.specs.declared.Change.the-variants.{Insert, Delete, Replace}
 use Rattle.planner.proofs.Demands.{changed-fits}
-use Rattle.editing.specs.Orders.{newOrderOf, overlaid, OrderChanged, ListsHeld}
-use Rattle.editing.specs.Drafts.{aroundOf, Inside}
+use Rattle.changes.specs.Orders.{newOrderOf, overlaid, OrderChanged, ListsHeld}
+use Rattle.changes.specs.Drafts.{aroundOf, Inside}
 use Rattle.editing.specs.Edits.{Revised}
 use Rattle.draft.specs.declared.Around.{Around}
-use Rattle.editing.proofs.Changes.{taken-is, put-is, changed-length}
+use Rattle.changes.proofs.Changes.{taken-is, put-is, changed-length}
 use Rattle.draft.proofs.Runs.{run-length}
 use Rattle.editing.proofs.Slots.{around-length, own-slots, own-placed, gate-slots, gate-placed}
 use Rattle.draft.specs.Arounds.{runSize, GroupsHeld, slotsAround, Placed}

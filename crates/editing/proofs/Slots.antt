@@ -22,11 +22,11 @@ use Rattle.draft.specs.Drafts.{alone, stretch}
 use Rattle.draft.proofs.Drafts.{rules-front, stretch-none}
 use Rattle.planner.specs.Edits.{kindOf}
 use Rattle.planner.specs.declared.Change.{Change}
-use Rattle.editing.specs.Orders.{takenBy, putBy}
-use Rattle.editing.specs.Drafts.{touched, aroundOf}
+use Rattle.changes.specs.Orders.{takenBy, putBy}
+use Rattle.changes.specs.Drafts.{touched, aroundOf}
 use Rattle.draft.specs.declared.Around.{Around}
 use Rattle.draft.proofs.Runs.{groups-front, groups-count}
-use Rattle.editing.proofs.Changes.{taken-is, put-is}
+use Rattle.changes.proofs.Changes.{taken-is, put-is}
 use Rattle.draft.specs.Arounds.{keptSlots, slotsAround, Placed}
 
 -- how many groups there are around a change

@@ -15,9 +15,8 @@ ghost use Rattle.records.specs.Calls.{RecordRead, RecordWritten};
 ghost use Rattle.orders.specs.Split.{Split};
 ghost use Rattle.orders.specs.Join.{Join};
 ghost use Rattle.planner.specs.Calls.{Moves, Checks, Lists, cellBytes, cellSize, gateBytes, gateSize};
-ghost use Rattle.planner.specs.Edits.{Edits};
+ghost use Rattle.planner.specs.Edits.{Edits, asked};
 ghost use Rattle.planner.specs.declared.Change.the-variants.{Insert, Delete, Replace};
-ghost use Rattle.editing.specs.Orders.{asked};
 ghost use Rattle.filter.specs.Lookup.{lookup, lookupNumber};
 ghost use Rattle.foldplover.specs.Coded.{coded, Plain, Coded};
 

@@ -24,6 +24,9 @@ pub record Asked : Type 0 where
   pub change : Change
   pub bytes : List ℕ
 
+abbrev pub asked : ℕ → ℕ → Change → List ℕ → Asked
+asked list place change new = record { list = list; place = place; change = change; bytes = new }
+
 abbrev pub kindOf : Change → List ℕ → Kind
 kindOf Insert s = insert (ruleIn s)
 kindOf Delete s = delete

@@ -3,9 +3,8 @@ use borrow.Author.Needs.{needs}
 use lib.ListN.{take}
 use Rattle.policy.specs.Fields.{limits}
 use Rattle.sheet.specs.Pairs.{pairBytes, pairSize}
-use Rattle.planner.specs.Edits.{editedOf}
+use Rattle.planner.specs.Edits.{editedOf, asked}
 use Rattle.planner.proofs.Calls.{room-short, call-short, call-done}
-use Rattle.editing.specs.Orders.{asked}
 use Rattle.editing.proofs.Calls.{used-short, edit-work-short, edit-lent}
 use Rattle.editing.proofs.edit.Statement.{statement}
 use Rattle.editing.proofs.edit.Tie as tie

@@ -14,9 +14,9 @@ use Rattle.wire.proofs.Numbers.{bytes-all, bytes-take}
 use Rattle.sheet.specs.Pairs.{pairBytes, pairSize}
 use Rattle.sheet.specs.Readers.{listsOf}
 use Rattle.sheet.proofs.Accepted.{PairAccepted, OrderAccepted, pair-refused, pair-accepted, order-refused, order-accepted}
-use Rattle.planner.specs.Edits.{Asked}
+use Rattle.planner.specs.Edits.{Asked, asked}
 use Rattle.planner.proofs.Finished.{refuses}
-use Rattle.editing.specs.Orders.{asked, OrderChanged}
+use Rattle.changes.specs.Orders.{OrderChanged}
 use Rattle.editing.proofs.Revised.{pair-faulty, gate-inside, order-inside, lists-held, third-inside, revised-refused, revised-end, revised-faulty, revised-inside, revised-finishing, revised-done}
 use Rattle.editing.proofs.revise_with.Statement.{statement}
 use Rattle.editing.proofs.revise_with.Tie as tie

@@ -1,7 +1,7 @@
 -- `is_whole` meets its contract. Assumes nothing.
 use borrow.Author.Needs.{needs}
-use Rattle.editing.proofs.is_whole.Statement.{statement}
-use Rattle.editing.proofs.is_whole.Tie as tie
+use Rattle.changes.proofs.is_whole.Statement.{statement}
+use Rattle.changes.proofs.is_whole.Tie as tie
 
 enum-told : tie.Need-enum-told
 enum-told c = search needs

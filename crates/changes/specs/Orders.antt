@@ -19,10 +19,6 @@ use Rattle.planner.specs.declared.Change.{Change}
 use Rattle.planner.specs.declared.Change.the-variants.{Insert, Delete, Replace}
 use Rattle.wire.specs.Buffers.{lengthOf}
 
--- An edit as its parameters ask for it.
-abbrev pub asked : ℕ → ℕ → Change → List ℕ → Asked
-asked list place change new = record { list = list; place = place; change = change; bytes = new }
-
 -- How many rules a change takes out at its place, and how many it puts in.
 abbrev pub takenBy : Change → ℕ
 takenBy Insert = 0

@@ -1,9 +1,9 @@
 -- `gate_places` meets its contract, arm by arm. Assumes nothing.
 use borrow.Author.Needs.{needs}
 use mathlib.Core.Path.{sym, _∙_}
-use Rattle.editing.proofs.Touched.{places-taken, places-put, places-kept}
-use Rattle.editing.proofs.gate_places.Statement.{statement}
-use Rattle.editing.proofs.gate_places.Tie as tie
+use Rattle.changes.proofs.Touched.{places-taken, places-put, places-kept}
+use Rattle.changes.proofs.gate_places.Statement.{statement}
+use Rattle.changes.proofs.gate_places.Tie as tie
 
 taken-by-requires : tie.Need-taken-by-requires
 taken-by-requires c κs = search needs

@@ -24,11 +24,11 @@ use Rattle.sheet.specs.Readers.{rulesOf, listsOf}
 use Rattle.wire.proofs.Lists.{listBytes-length}
 use Rattle.sheet.proofs.Outcomes.{faultless}
 use Rattle.sheet.proofs.Orders.{faultless-fits}
-use Rattle.planner.specs.Edits.{Asked, kindOf, editOf, wholeRecord}
+use Rattle.planner.specs.Edits.{Asked, kindOf, editOf, wholeRecord, asked}
 use Rattle.planner.specs.declared.Change.{Change}
 use Rattle.planner.specs.declared.Change.the-variants.{Insert, Delete, Replace}
-use Rattle.editing.specs.Orders.{asked, takenBy, putBy, spliced, newOrderOf, overlaid, OrderChanged, ListsHeld}
-use Rattle.editing.proofs.Splices.{section-spliced}
+use Rattle.changes.specs.Orders.{takenBy, putBy, spliced, newOrderOf, overlaid, OrderChanged, ListsHeld}
+use Rattle.changes.proofs.Splices.{section-spliced}
 use Rattle.wire.specs.Lists.{listBytes, listSize}
 use Rattle.wire.specs.Buffers.{lengthOf}
 

@@ -1,7 +1,7 @@
 -- `pick` meets its contract. Assumes nothing.
 use borrow.Author.Tests.{eq-eqb, ne-eqb}
-use Rattle.editing.proofs.pick.Statement.{statement}
-use Rattle.editing.proofs.pick.Tie as tie
+use Rattle.changes.proofs.pick.Statement.{statement}
+use Rattle.changes.proofs.pick.Tie as tie
 
 returns : tie.Need-returns
 returns c = rw (eq-eqb _ _ (c .if1 .taken))

@@ -2,9 +2,9 @@
 use borrow.Author.Needs.{needs}
 use borrow.Author.Tests.{eq-eqb, ne-eqb}
 use lib.Dec.{eqb}
-use Rattle.editing.proofs.Touched.{inside-gate, places-own}
-use Rattle.editing.proofs.places.Statement.{statement}
-use Rattle.editing.proofs.places.Tie as tie
+use Rattle.changes.proofs.Touched.{inside-gate, places-own}
+use Rattle.changes.proofs.places.Statement.{statement}
+use Rattle.changes.proofs.places.Tie as tie
 
 gate-places-requires : tie.Need-gate-places-requires
 gate-places-requires c κs =

@@ -1,9 +1,9 @@
 -- `any_allow` meets its contract: no rule, or the one at the place. Assumes nothing.
 use borrow.Author.Needs.{needs}
 use native.Mathlib.Omega.{arith}
-use Rattle.editing.proofs.Touched.{no-rule, one-rule}
-use Rattle.editing.proofs.any_allow.Statement.{statement}
-use Rattle.editing.proofs.any_allow.Tie as tie
+use Rattle.changes.proofs.Touched.{no-rule, one-rule}
+use Rattle.changes.proofs.any_allow.Statement.{statement}
+use Rattle.changes.proofs.any_allow.Tie as tie
 
 returns : tie.Need-returns
 returns c = let a = c .before .before .args in no-rule (a .list .now) (a .place) (a .n) (c .if1 .taken)

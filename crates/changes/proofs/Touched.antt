@@ -16,8 +16,8 @@ use Rattle.sheet.specs.Readers.{rulesOf}
 use Rattle.draft.specs.declared.Around.{Around}
 use Rattle.draft.proofs.Drafts.{rules-front}
 use Rattle.planner.specs.declared.Change.{Change}
-use Rattle.editing.specs.Orders.{takenBy, putBy}
-use Rattle.editing.specs.Drafts.{Inside, touched, aroundOf}
+use Rattle.changes.specs.Orders.{takenBy, putBy}
+use Rattle.changes.specs.Drafts.{Inside, touched, aroundOf}
 
 -- no rule, or the one at the place
 pub no-rule : (s : List ℕ) (place n : ℕ) → n ≡ 0 → false ≡ anyAllow (drop place (rulesOf (place + n) s))

@@ -3,13 +3,13 @@ use borrow.Author.Needs.{needs}
 use native.Mathlib.Omega.{arith}
 use mathlib.Core.Path.{_≡_, sym, _∙_}
 use lib.Dec.{eqb}
-use Rattle.editing.specs.Orders.{putBy}
+use Rattle.changes.specs.Orders.{putBy}
 use lib.ListN.{length-take}
 use borrow.Author.Tests.{not-true, not-false}
 use Rattle.wire.proofs.Numbers.{bytes-all}
-use Rattle.editing.proofs.Changes.{changed-no-list, changed-no-place, changed-short, changed-done, target-length, target-some, edit-spliced, put-long, section-there, lists-short}
-use Rattle.editing.proofs.change_order.Statement.{statement}
-use Rattle.editing.proofs.change_order.Tie as tie
+use Rattle.changes.proofs.Changes.{changed-no-list, changed-no-place, changed-short, changed-done, target-length, target-some, edit-spliced, put-long, section-there, lists-short}
+use Rattle.changes.proofs.change_order.Statement.{statement}
+use Rattle.changes.proofs.change_order.Tie as tie
 
 returns : tie.Need-returns
 returns c =

@@ -6,7 +6,7 @@ use lib.ListN.{length, take, drop}
 use Rattle.policy.specs.Rules.{Rule, denies, anyAllow}
 use Rattle.policy.specs.Refusals.{unless}
 use Rattle.planner.specs.declared.Change.{Change}
-use Rattle.editing.specs.Orders.{takenBy, putBy}
+use Rattle.changes.specs.Orders.{takenBy, putBy}
 use Rattle.draft.specs.declared.Around.{Around}
 
 -- Whether an allow is taken out of A or put in, at the place.

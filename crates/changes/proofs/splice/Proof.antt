@@ -3,9 +3,9 @@ use borrow.Author.Needs.{needs}
 use native.Mathlib.Omega.{arith}
 use mathlib.Core.Path.{refl}
 use lib.ListN.{length-take}
-use Rattle.editing.proofs.Splices.{splice-put}
-use Rattle.editing.proofs.splice.Statement.{statement}
-use Rattle.editing.proofs.splice.Tie as tie
+use Rattle.changes.proofs.Splices.{splice-put}
+use Rattle.changes.proofs.splice.Statement.{statement}
+use Rattle.changes.proofs.splice.Tie as tie
 
 add-first : tie.Need-add-first
 add-first c = search needs

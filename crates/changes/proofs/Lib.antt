@@ -1,0 +1,3 @@
+pub mod Splices
+pub mod Changes
+pub mod Touched
