@@ -1,6 +1,8 @@
 // Edit: a pair sheet changed at one place of A or of B. The new lists are written as an order sheet into a local buffer and
 // read there, and section C is drafted from kept groups and groups worked out anew, before anything lent is touched.
 use changes::Site;
+use changes::change_order;
+use changes::places;
 use groups::WORK_BYTES;
 use planner::Change;
 use policy::Answer;
@@ -43,16 +45,7 @@ fn revise_with(
             middle,
             third,
             boxes: _,
-        } => match changes::change_order(
-            &sheet[..used],
-            gate,
-            own,
-            middle,
-            third,
-            site,
-            new,
-            order,
-        ) {
+        } => match change_order(&sheet[..used], gate, own, middle, third, site, new, order) {
             Answer::Refused(f) => Answer::Refused(f),
             Answer::Length(end) => match sheet::read_order(&order[..end]) {
                 OrderParts::Fault(f) => Answer::Refused(f),
@@ -61,13 +54,7 @@ fn revise_with(
                     own: others,
                     middle: _,
                 } => {
-                    let around = changes::places(
-                        &sheet[..used],
-                        gate,
-                        site,
-                        &order[..end],
-                        renewed,
-                    );
+                    let around = places(&sheet[..used], gate, site, &order[..end], renewed);
                     let from = third + COUNT_BYTES;
                     planner::finish(
                         sheet,
