@@ -7,17 +7,17 @@ library=target/staticlib/libfoldplover.a
 flags='-Wall -Wextra -Wpedantic -Werror -Iinclude'
 rt staticlib foldplover >target/staticlib.log 2>&1 || { tail -n 20 target/staticlib.log; exit 1; }
 
-gcc -std=c11 $flags -o target/surface tests/c/surface.c $library
-target/surface
-g++ -std=c++17 $flags -o target/surface++ -x c++ tests/c/surface.c -x none $library
-target/surface++
+tests/x86 gcc -std=c11 $flags -o target/surface tests/c/surface.c $library
+tests/x86 run target/surface
+tests/x86 g++ -std=c++17 $flags -o target/surface++ -x c++ tests/c/surface.c -x none $library
+tests/x86 run target/surface++
 
-gcc -std=c11 $flags -o target/desk examples/desk.c $library
+tests/x86 gcc -std=c11 $flags -o target/desk examples/desk.c $library
 for name in dairy plant refused; do
-    target/desk examples/$name.order target/$name.gate target/$name.cell || true
+    tests/x86 run target/desk examples/$name.order target/$name.gate target/$name.cell || true
 done >target/desk.txt
 printf 'gate 29 bytes, cell 137 bytes\ngate 29 bytes, cell 9425 bytes\nrefused 6\n' | cmp - target/desk.txt
 
-rustc -O --edition 2021 --cfg library -L native=target/staticlib -o target/drive tests/second/main.rs
-target/drive drive 20000 1 >target/drive.txt 2>target/drive.log || { cut -c 1-400 target/drive.txt | tail -n 20; exit 1; }
+tests/x86 rustc -O --edition 2021 --cfg library -L native=target/staticlib -o target/drive tests/second/main.rs
+tests/x86 run target/drive drive 20000 1 >target/drive.txt 2>target/drive.log || { cut -c 1-400 target/drive.txt | tail -n 20; exit 1; }
 tail -n 1 target/drive.txt
