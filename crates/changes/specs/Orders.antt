@@ -1,34 +1,29 @@
 -- The order sheet that an edit makes of the two lists that were read (01, Calls and Numbers given back). Assumes nothing.
 use mathlib.Core.Path.{_≡_}
-use mathlib.Core.List.{List, _++_}
+use mathlib.Core.List.{List, [], _++_}
 use mathlib.Core.Bool.{_&&_}
 use Prim.Native.Nat.{ℕ, _+_, _*_}
 use lib.Dec.{leb}
-use lib.ListN.{take, drop}
+use lib.ListN.{length, take, drop}
 use lib.Seq.{sets}
 use Rattle.policy.specs.Fields.{countSize, recordSize, limits}
 use Rattle.policy.specs.Refusals.{Outcome, accepted, refused, test, said}
 use Rattle.policy.specs.Move.{Order, listRefusal}
-use Rattle.policy.specs.Edit.{newOrder, placeFound}
+use Rattle.policy.specs.Edit.{out, put, newOrder, placeFound}
 use Rattle.policy.specs.declared.Answer.{Answer}
 use Rattle.wire.specs.Numbers.{numberBytes}
 use Rattle.sheet.specs.Orders.{orderBytes}
 use Rattle.sheet.specs.Readers.{rulesOf, listsOf, ListsPlace}
-use Rattle.planner.specs.Edits.{Asked, editOf, wholeRecord}
+use Rattle.planner.specs.Edits.{Asked, kindOf, editOf, wholeRecord}
 use Rattle.planner.specs.declared.Change.{Change}
-use Rattle.planner.specs.declared.Change.the-variants.{Insert, Delete, Replace}
 use Rattle.wire.specs.Buffers.{lengthOf}
 
--- How many rules a change takes out at its place, and how many it puts in.
+-- How many rules a change takes out at its place, and how many it puts in, whatever the record is.
 abbrev pub takenBy : Change → ℕ
-takenBy Insert = 0
-takenBy Delete = 1
-takenBy Replace = 1
+takenBy c = out (kindOf c [])
 
 abbrev pub putBy : Change → ℕ
-putBy Insert = 1
-putBy Delete = 0
-putBy Replace = 1
+putBy c = length (put (kindOf c []))
 
 -- The bytes of lists with the section at `start` changed: what stands before it, its new count, its records before the place,
 -- the bytes put in, and all that stands behind the records taken out.

@@ -17,7 +17,7 @@ use Rattle.policy.proofs.Edits.{slots-append, over-append, together-append, all
 use Rattle.wire.specs.Records.{ruleIn, rulesIn}
 use Rattle.wire.proofs.Records.{rules-from, rulesIn-length}
 use Rattle.sheet.specs.Pairs.{groupBytes, groupsBytes}
-use Rattle.draft.specs.Drafts.{alone, stretch, groupsIn, Drawn, Drafting}
+use Rattle.draft.specs.Drafts.{alone, stretch, slotGroups, Drawn, Drafting}
 use Rattle.draft.specs.declared.Drafted.{Drafted}
 use Rattle.draft.specs.declared.Drafted.the-variants.{Groups, TooManyPieces}
 
@@ -42,10 +42,10 @@ pub drafting-then : {lim : Limits} {x y : List Slot} {draft draft′ last : List
 unfolding Drawn
 drafting-then {lim} {x} {y} TooManyPieces h k = record { drawn = over-append (lim .pieces) x y ∙ rw (h .drawn .0, k .drawn) }
 drafting-then {lim} {x} {y} {draft} {draft′} {last} {at} {boxes} {b} {n} (Groups c m) h k =
-    let e : length (together (groupsIn (x ++ y))) ≡ length (together (groupsIn x)) + length (together (groupsIn y)) =
-    rw (map-append boxesOf x y, together-append (groupsIn x) (groupsIn y)) (length-append (together (groupsIn x)) (together (groupsIn y))) in
-    let f : groupsBytes (groupsIn (x ++ y)) ≡ groupsBytes (groupsIn x) ++ groupsBytes (groupsIn y) =
-    rw (map-append boxesOf x y) (groupsBytes-append (groupsIn x) (groupsIn y)) in
+    let e : length (together (slotGroups (x ++ y))) ≡ length (together (slotGroups x)) + length (together (slotGroups y)) =
+    rw (map-append boxesOf x y, together-append (slotGroups x) (slotGroups y)) (length-append (together (slotGroups x)) (together (slotGroups y))) in
+    let f : groupsBytes (slotGroups (x ++ y)) ≡ groupsBytes (slotGroups x) ++ groupsBytes (slotGroups y) =
+    rw (map-append boxesOf x y) (groupsBytes-append (slotGroups x) (slotGroups y)) in
     let hb = h .drawn .1 in
     let kb = k .drawn .1 in
     record {
@@ -55,7 +55,7 @@ drafting-then {lim} {x} {y} {draft} {draft′} {last} {at} {boxes} {b} {n} (Grou
         λ t.
             let u = h .drawn .2 (omega arith) in
             let v = k .drawn .2 t in
-            (rw (f, length-append) (omega arith), v .1 ∙ rw (u .1, f, sets-append draft at (groupsBytes (groupsIn x)) (groupsBytes (groupsIn y)), u .0)),
+            (rw (f, length-append) (omega arith), v .1 ∙ rw (u .1, f, sets-append draft at (groupsBytes (slotGroups x)) (groupsBytes (slotGroups y)), u .0)),
       );
     }
 

@@ -12,7 +12,7 @@ use Rattle.policy.specs.Fields.{limits}
 use Rattle.policy.specs.Move.{Slot, boxesOf, together, anyOver}
 use Rattle.sheet.specs.Pairs.{groupsBytes}
 use Rattle.sheet.proofs.Pairs.{ProperGroup}
-use Rattle.draft.specs.Drafts.{groupsIn, Drawn, Drafting, draftSize}
+use Rattle.draft.specs.Drafts.{slotGroups, Drawn, Drafting, draftSize}
 use Rattle.draft.specs.declared.Drafted.the-variants.{Groups, TooManyPieces}
 use Rattle.draft.proofs.Laid.{groups-length}
 
@@ -26,21 +26,21 @@ module _ {l : List Slot} {draft draft′ : List ℕ} where
     unfolding Drawn
     drawn-light = x .drawn .0
 
-    pub drawn-boxes : boxes ≡ length (together (groupsIn l))
+    pub drawn-boxes : boxes ≡ length (together (slotGroups l))
     unfolding Drawn
     drawn-boxes = let e = x .drawn .1 in omega arith
 
-    module _ (few : boxes ≤ limits .total) (proper : Each ProperGroup (groupsIn l)) (short : length l ≤ limits .gate) (room : draftSize limits ≤ length draft) where
-      bytes-drawn : (end ≡ 0 + length (groupsBytes (groupsIn l))) × (draft′ ≡ sets draft 0 (groupsBytes (groupsIn l)))
+    module _ (few : boxes ≤ limits .total) (proper : Each ProperGroup (slotGroups l)) (short : length l ≤ limits .gate) (room : draftSize limits ≤ length draft) where
+      bytes-drawn : (end ≡ 0 + length (groupsBytes (slotGroups l))) × (draft′ ≡ sets draft 0 (groupsBytes (slotGroups l)))
       unfolding Drawn
       bytes-drawn = x .drawn .2 few
 
       pub drawn-end : end ≤ length draft
-      drawn-end = omega (arith, bytes-drawn .0, groups-length (groupsIn l) proper, length-map l boxesOf, drawn-boxes)
+      drawn-end = omega (arith, bytes-drawn .0, groups-length (slotGroups l) proper, length-map l boxesOf, drawn-boxes)
 
-      pub drawn-content : take end draft′ ≡ groupsBytes (groupsIn l)
+      pub drawn-content : take end draft′ ≡ groupsBytes (slotGroups l)
       drawn-content =
           let e = bytes-drawn in
-          let g : List ℕ = groupsBytes (groupsIn l) in
+          let g : List ℕ = groupsBytes (slotGroups l) in
           let z : 0 + length g ≡ length g = omega arith in
           rw (e .1, sets-eq g draft 0 (omega (arith, drawn-end)), e .0) (take-at g (drop (0 + length g) draft) (0 + length g) (sym z))

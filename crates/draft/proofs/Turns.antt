@@ -16,7 +16,7 @@ use Rattle.policy.proofs.Groups.{over-few}
 use Rattle.wire.specs.Numbers.{numberBytes}
 use Rattle.wire.specs.Records.{boxesBytes, ruleIn}
 use Rattle.wire.proofs.Numbers.{numberBytes-length}
-use Rattle.groups.specs.Worked.{startAt, allowsAt, workedOf, Holds, WorkedOut, workSize}
+use Rattle.groups.specs.Worked.{startAt, allowsAt, workedOf, GroupStands, WorkedOut, workSize}
 use Rattle.groups.specs.declared.Worked.the-variants.{Boxes, TooMany}
 use Rattle.sheet.specs.Pairs.{groupSize, groupBytes}
 use Rattle.draft.specs.Drafts.{Appended, stretch, Drafting, Bounded, Ready, DraftedGroups}
@@ -82,7 +82,7 @@ module _ {rules : List ℕ} {i : ℕ} {draft : List ℕ} {at boxes : ℕ} {w : L
     pub drafted-boxes : {n end : ℕ} {draft′ : List ℕ} → WorkedOut rules i w (Boxes n) w′ → boxSize * n ≤ length w′
         → Appended draft at (boxes + n) n (take (boxSize * n) w′) end draft′
         → DraftedGroups rules i (i + 1) draft at boxes w (Groups (boxes + n) end) draft′ w′
-    unfolding Holds groupBytes
+    unfolding GroupStands groupBytes
     drafted-boxes {n} {end} {draft′} x l a =
         let g : List Region = group (startAt i rules) (allowsAt i rules) in
         let z = worked-boxes x in

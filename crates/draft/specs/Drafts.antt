@@ -30,8 +30,8 @@ alone d = d ∷ []
 abbrev pub stretch : ℕ → ℕ → List ℕ → List Slot
 stretch from to rules = slots alone (allowsIn (rulesIn from rules)) (drop from (rulesIn to rules))
 
-abbrev pub groupsIn : List Slot → List (List Region)
-groupsIn l = map boxesOf l
+abbrev pub slotGroups : List Slot → List (List Region)
+slotGroups l = map boxesOf l
 
 -- A group's bytes behind what the draft holds, where all boxes with these are within the total.
 pub record Appended (draft : List ℕ) (at boxes n : ℕ) (content : List ℕ) (r : ℕ) (draft′ : List ℕ) : Type 0 where
@@ -44,8 +44,8 @@ unfoldable pub Drawn : Limits → List Slot → List ℕ → ℕ → ℕ → Dra
 Drawn lim l draft at boxes TooManyPieces draft′ = anyOver (lim .pieces) l ≡ true
 Drawn lim l draft at boxes (Groups b n) draft′ =
     (anyOver (lim .pieces) l ≡ false)
-    × (b ≡ boxes + length (together (groupsIn l)))
-    × (b ≤ lim .total → (n ≡ at + length (groupsBytes (groupsIn l))) × (draft′ ≡ sets draft at (groupsBytes (groupsIn l))))
+    × (b ≡ boxes + length (together (slotGroups l)))
+    × (b ≤ lim .total → (n ≡ at + length (groupsBytes (slotGroups l))) × (draft′ ≡ sets draft at (groupsBytes (slotGroups l))))
 
 pub record Drafting (lim : Limits) (l : List Slot) (draft : List ℕ) (at boxes : ℕ) (r : Drafted) (draft′ : List ℕ) : Type 0 where
   pub drawn : Drawn lim l draft at boxes r draft′

@@ -2,3 +2,4 @@ pub mod Insides
 pub mod Lookups
 pub mod Verdicts
 pub mod Lists
+pub mod Examples

@@ -14,7 +14,7 @@ ghost use Rattle.policy.specs.Values.{packetOf};
 ghost use Rattle.records.specs.Calls.{RecordRead, RecordWritten};
 ghost use Rattle.orders.specs.Split.{Split};
 ghost use Rattle.orders.specs.Join.{Join};
-ghost use Rattle.planner.specs.Calls.{Moves, Checks, Lists, cellBytes, cellSize, gateBytes, gateSize};
+ghost use Rattle.planner.specs.Calls.{Moves, Checks, Lists, cellBytes, cellListSize, gateBytes, gateListSize};
 ghost use Rattle.planner.specs.Edits.{Edits, asked};
 ghost use Rattle.planner.specs.declared.Change.the-variants.{Insert, Delete, Replace};
 ghost use Rattle.filter.specs.Lookup.{lookup, lookupNumber};
@@ -88,14 +88,14 @@ pub extern "C" fn foldplover_check(sheet: &[u8], work: &mut [u8]) -> u32
 
 #[no_mangle]
 pub extern "C" fn foldplover_cell_list(sheet: &[u8], list: &mut [u8], work: &mut [u8]) -> u32
-    ensures { λ r. ⌜ Coded (λ q. Lists cellBytes cellSize (now (sheet .entry)) (now (list .entry)) (now (work .entry)) q (now (list .exit)) (now (work .exit))) r ⌝ }
+    ensures { λ r. ⌜ Coded (λ q. Lists cellBytes cellListSize (now (sheet .entry)) (now (list .entry)) (now (work .entry)) q (now (list .exit)) (now (work .exit))) r ⌝ }
 {
     answer_number(listing::cell_list(sheet, list, work))
 }
 
 #[no_mangle]
 pub extern "C" fn foldplover_gate_list(sheet: &[u8], list: &mut [u8], work: &mut [u8]) -> u32
-    ensures { λ r. ⌜ Coded (λ q. Lists gateBytes gateSize (now (sheet .entry)) (now (list .entry)) (now (work .entry)) q (now (list .exit)) (now (work .exit))) r ⌝ }
+    ensures { λ r. ⌜ Coded (λ q. Lists gateBytes gateListSize (now (sheet .entry)) (now (list .entry)) (now (work .entry)) q (now (list .exit)) (now (work .exit))) r ⌝ }
 {
     answer_number(listing::gate_list(sheet, list, work))
 }

@@ -18,7 +18,7 @@ use Rattle.policy.specs.Move.{over}
 use Rattle.policy.proofs.Moves.{rule-proper}
 use Rattle.wire.specs.Records.{boxBytes, boxIn, boxesBytes, boxesIn, ruleIn, rulesIn, Fits}
 use Rattle.wire.proofs.Records.{proper-fits, boxBytes-length, box-back, boxesIn-length, rulesIn-length, rule-in-place}
-use Rattle.groups.specs.Worked.{workSize, startAt, allowsAt, workedOf, Holds, WorkedOut}
+use Rattle.groups.specs.Worked.{workSize, startAt, allowsAt, workedOf, GroupStands, WorkedOut}
 use Rattle.groups.specs.declared.Worked.the-variants.{Boxes, TooMany}
 use Rattle.groups.specs.Stores.{places, Proper, Stands, Taken}
 use Rattle.groups.proofs.Stores.{drop-sets}
@@ -116,7 +116,7 @@ module _ {half : ℕ} {work₀ rules : List ℕ} {i : ℕ} {work : List ℕ} {n 
             rw (← g .number, o)
 
         pub working-over : (before : List ℕ) → half + half ≡ workSize limits → drop (half + half) work₀ ≡ drop (half + half) before → WorkedOut rules i before TooMany work′
-        unfolding Holds
+        unfolding GroupStands
         working-over before x f = record { answer = answered-over; boxes = tt; beyond = rw x at (k .beyond ∙ (g .beyond ∙ f)) }
 
       pub working-next : m ≤ places → Proper (r .region) → length work′ ≡ length work → Working half work₀ rules i work′ m (j + 1)
@@ -154,7 +154,7 @@ module _ {half : ℕ} {work₀ rules : List ℕ} {i : ℕ} {work : List ℕ} {n 
         rw (o, ← group-stands, boxesIn-length)
 
     pub working-done : (before : List ℕ) → half + half ≡ workSize limits → drop (half + half) work₀ ≡ drop (half + half) before → WorkedOut rules i before (Boxes n) work
-    unfolding Holds
+    unfolding GroupStands
     working-done before e f = record {
       answer = answered;
       boxes = g .stands .written ∙ ap boxesBytes group-stands;

@@ -30,11 +30,11 @@ unfoldable pub workedOf : Limits → List Region → List Region → Worked
 workedOf lim start allows = cond (over (lim .pieces) start allows) TooMany (Boxes (length (group start allows)))
 
 -- The bytes that the answer speaks of: those of the group's boxes, where it has one.
-unfoldable pub Holds : List Region → List ℕ → Worked → Type 0
-Holds g work (Boxes n) = take (boxSize * n) work ≡ boxesBytes g
-Holds g work TooMany = Unit {0}
+unfoldable pub GroupStands : List Region → List ℕ → Worked → Type 0
+GroupStands g work (Boxes n) = take (boxSize * n) work ≡ boxesBytes g
+GroupStands g work TooMany = Unit {0}
 
 pub record WorkedOut (rules : List ℕ) (i : ℕ) (work : List ℕ) (r : Worked) (work′ : List ℕ) : Type 0 where
   pub answer : r ≡ workedOf limits (startAt i rules) (allowsAt i rules)
-  pub boxes : Holds (group (startAt i rules) (allowsAt i rules)) work′ r
+  pub boxes : GroupStands (group (startAt i rules) (allowsAt i rules)) work′ r
   pub beyond : drop (workSize limits) work′ ≡ drop (workSize limits) work

@@ -28,7 +28,7 @@ use Rattle.sheet.specs.Readers.{rulesOf, groupsFrom, pairOf, pairHeard, PairPla
 use Rattle.sheet.specs.declared.PairParts.the-variants as P
 use Rattle.wire.proofs.Lists.{listBytes-length}
 use Rattle.sheet.proofs.Orders.{faultless-fits}
-use Rattle.planner.specs.Calls.{checkOf, Call, cellBytes, gateBytes, gateSize}
+use Rattle.planner.specs.Calls.{checkOf, Call, cellBytes, gateBytes, gateListSize}
 use Rattle.checking.specs.Steps.{CheckRead}
 use Rattle.listing.specs.Steps.{boxRecords, boxCount, groupRecords, ListPut}
 use Rattle.planner.proofs.Good.{denials-length, gate-list-good}
@@ -206,15 +206,15 @@ module _ {s : List ℕ} {n m middle third boxes : ℕ} (p : PairPlace s n m midd
       record { answer = rw cell-content l; result = rw cell-content (three-filled list head boxed own last end most l h k (rw (← w, ← v) q)) }
 
 -- The gate list: the count and the one rule, which fill it.
-pub gate-put : (p : Pair) (list c₁ last : List ℕ) (r : Rule) → gateSize ≤ length list → r ≡ rule full 1 → c₁ ≡ sets list 0 (numberBytes countSize 1)
-    → last ≡ sets c₁ countSize (recordBytes r) → ListPut (gateBytes p) gateSize list gateSize last
+pub gate-put : (p : Pair) (list c₁ last : List ℕ) (r : Rule) → gateListSize ≤ length list → r ≡ rule full 1 → c₁ ≡ sets list 0 (numberBytes countSize 1)
+    → last ≡ sets c₁ countSize (recordBytes r) → ListPut (gateBytes p) gateListSize list gateListSize last
 unfolding gateBytes listBytes recordsBytes
 gate-put p list c₁ last r h e f g =
-    let l : length (gateBytes p) ≡ gateSize = listBytes-length (gateList p) (faultless-fits (limits .total) (gateList p) (omega arith) (gate-list-good limits p (omega arith)) .rules) in
+    let l : length (gateBytes p) ≡ gateListSize = listBytes-length (gateList p) (faultless-fits (limits .total) (gateList p) (omega arith) (gate-list-good limits p (omega arith)) .rules) in
     let head : List ℕ = numberBytes countSize 1 in
     let z : 0 + length head ≡ countSize = omega (arith, numberBytes-length countSize 1) in
     let w : sets list 0 (head ++ recordBytes (rule full 1)) ≡ last = sets-append list 0 head (recordBytes (rule full 1)) ∙ rw (z, ← f, ← e) (sym g) in
-    record { answer = sym l; result = sym w ∙ (ap (λ (x : List ℕ). sets list 0 (head ++ x)) (sym (append-none (recordBytes (rule full 1)))) ∙ filled-front gateSize list (gateBytes p) l h) }
+    record { answer = sym l; result = sym w ∙ (ap (λ (x : List ℕ). sets list 0 (head ++ x)) (sym (append-none (recordBytes (rule full 1)))) ∙ filled-front gateListSize list (gateBytes p) l h) }
 
 -- A list call once its buffers are long enough: what the check came to, and the list.
 module _ (bytes : Pair → List ℕ) (size : ℕ) (lent : Bool) (s out w : List ℕ) (h : lent ≡ true) {w′ : List ℕ} (e : w′ ≡ zeroed 0 (workSize limits) w) where

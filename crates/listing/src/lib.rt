@@ -19,7 +19,7 @@ ghost use Rattle.policy.specs.Fields.{boxSize, countSize, recordSize};
 ghost use Rattle.policy.specs.Rules.{rule, full};
 ghost use Rattle.policy.specs.Values.{ruleOf};
 ghost use Rattle.sheet.specs.Readers.{pairOf, PairPlace};
-ghost use Rattle.planner.specs.Calls.{Lists, cellBytes, cellSize, gateBytes, gateSize};
+ghost use Rattle.planner.specs.Calls.{Lists, cellBytes, cellListSize, gateBytes, gateListSize};
 ghost use Rattle.listing.specs.Steps.{boxRecords, boxCount, groupRecords, ListPut};
 
 // What the cell list and the gate list are lent at least.
@@ -72,8 +72,8 @@ fn put_cell_list(
     third: usize,
     boxes: usize,
 ) -> usize
-    requires { ⌜ PairPlace (now sheet) gate own middle third boxes × (cellSize ≤ length (now list)) ⌝ }
-    ensures { λ r. ⌜ ListPut (cellBytes (pairOf gate own middle third (now (sheet .entry)))) cellSize (now (list .entry)) r (now (list .exit)) ⌝ }
+    requires { ⌜ PairPlace (now sheet) gate own middle third boxes × (cellListSize ≤ length (now list)) ⌝ }
+    ensures { λ r. ⌜ ListPut (cellBytes (pairOf gate own middle third (now (sheet .entry)))) cellListSize (now (list .entry)) r (now (list .exit)) ⌝ }
 {
     wire::put_count(list, 0, boxes + own);
     let groups = sheet::count_denies(sheet, gate);
@@ -87,7 +87,7 @@ fn put_cell_list(
 
 // Cell list: check, then every group's boxes as deny rules and the own rules; the answer is the list's length.
 pub fn cell_list(sheet: &[u8], list: &mut [u8], work: &mut [u8]) -> Answer
-    ensures { λ r. ⌜ Lists cellBytes cellSize (now (sheet .entry)) (now (list .entry)) (now (work .entry)) r (now (list .exit)) (now (work .exit)) ⌝ }
+    ensures { λ r. ⌜ Lists cellBytes cellListSize (now (sheet .entry)) (now (list .entry)) (now (work .entry)) r (now (list .exit)) (now (work .exit)) ⌝ }
 {
     if list.len() < CELL_LIST_BYTES {
         return Answer::Refused(Refusal::BufferShort);
@@ -121,7 +121,7 @@ fn allow_all() -> Rule
 
 // Gate list: check, then one full allow rule, which takes all that is lent at least; the answer is the list's length.
 pub fn gate_list(sheet: &[u8], list: &mut [u8], work: &mut [u8]) -> Answer
-    ensures { λ r. ⌜ Lists gateBytes gateSize (now (sheet .entry)) (now (list .entry)) (now (work .entry)) r (now (list .exit)) (now (work .exit)) ⌝ }
+    ensures { λ r. ⌜ Lists gateBytes gateListSize (now (sheet .entry)) (now (list .entry)) (now (work .entry)) r (now (list .exit)) (now (work .exit)) ⌝ }
 {
     if list.len() < GATE_LIST_BYTES {
         return Answer::Refused(Refusal::BufferShort);

@@ -35,7 +35,7 @@ use Rattle.sheet.proofs.Orders.{ListFits, faultless-fits, order-back, order-fau
 use Rattle.sheet.proofs.Pairs.{pair-back, pair-good}
 use Rattle.planner.specs.Calls.{planOf, moveOf, checkedOf, checkOf}
 use Rattle.planner.specs.Edits.{Asked, kindOf, editOf, wholeRecord, changeOf, editedOf}
-use Rattle.planner.specs.Demands.{DemandTwo, Small, Held, held, after, edits, runCalls, ifTaken, taken, DemandThree, EditAsFresh, OthersAsBefore}
+use Rattle.planner.specs.Demands.{DemandTwo, Small, Held, held, heldAfter, edits, runCalls, ifTaken, taken, DemandThree, EditAsFresh, OthersAsBefore}
 use Rattle.planner.specs.declared.Change.{Change}
 use Rattle.planner.specs.declared.Change.the-variants.{Insert, Delete, Replace}
 use Rattle.planner.proofs.Good.{moved-good, pair-short, gate-list-good, cell-list-good}
@@ -160,7 +160,7 @@ module _ (lim : Limits) (small : Small lim) where
   Ran es h out o = (moveRefusal lim (allDone es o) ≡ 0) × (h ≡ held lim out (moved (allDone es o)))
 
   ran : (l : List Asked) (out : List ℕ) (o : Order) → moveRefusal lim o ≡ 0 → Ran (taken lim l (held lim out (moved o))) (runCalls lim l (held lim out (moved o))) out o
-  unfolding runCalls taken allDone after
+  unfolding runCalls taken allDone heldAfter
   ran [] out o h = (h, refl)
   ran (a ∷ l) out o h = go (edits lim a first) refl (ran l out o h) (λ o′ h′. ran l out o′ h′)
     where
@@ -169,7 +169,7 @@ module _ (lim : Limits) (small : Small lim) where
 
       go : (x : Outcome Pair) → edits lim a first ≡ x → Ran (taken lim l first) (runCalls lim l first) out o
           → ((o′ : Order) → moveRefusal lim o′ ≡ 0 → Ran (taken lim l (held lim out (moved o′))) (runCalls lim l (held lim out (moved o′))) out o′)
-          → Ran (ifTaken x (editOf a) (taken lim l (after lim first x))) (runCalls lim l (after lim first x)) out o
+          → Ran (ifTaken x (editOf a) (taken lim l (heldAfter lim first x))) (runCalls lim l (heldAfter lim first x)) out o
       go (refused n) e same done = same
       go (accepted p) e same done =
           let c = change-accepted a o p h (sym (edits-moved out o a h) ∙ e) in

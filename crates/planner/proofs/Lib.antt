@@ -5,3 +5,4 @@ pub mod Calls
 pub mod Finished
 pub mod Planning
 pub mod Lengths
+pub mod Examples

@@ -18,14 +18,14 @@ use Rattle.groups.specs.Worked.{workSize}
 use Rattle.sheet.specs.Pairs.{pairBytes, pairSize}
 use Rattle.planner.specs.Calls.{roomFor, moveOf, Moves}
 use Rattle.planner.specs.Edits.{Asked}
-use Rattle.planner.specs.Demands.{MoveMeets, Held, held, after, edits, runCalls, lengthNow, EditCalls, RunAsFresh}
+use Rattle.planner.specs.Demands.{MoveMeets, Held, held, heldAfter, edits, runCalls, lengthNow, EditCalls, RunAsFresh}
 use Rattle.planner.proofs.Demands.{move-read, demand-two, demand-three, limits-small}
 use Rattle.wire.specs.Buffers.{written, lengthOf}
 
 -- one edit call that is lent enough is a step of the run
 step-is : (h : Held) (x : Outcome Pair) (r : Answer) (b : List ℕ) → said r ≡ lengthOf pairBytes x → b ≡ written pairBytes (pairSize limits) (h .buffer) x
-    → record { buffer = b; used = lengthNow r (h .used) } ≡ after limits h x
-unfolding lengthOf written after
+    → record { buffer = b; used = lengthNow r (h .used) } ≡ heldAfter limits h x
+unfolding lengthOf written heldAfter
 step-is h (accepted p) (Length n) b e f = let k : n ≡ length (pairBytes p) = cc in rw (k, f)
 step-is h (accepted p) (Refused g) b e f = let z : _≡_ {A = ℕ} 0 1 = cc in absurd (omega arith)
 step-is h (refused k) (Length n) b e f = let z : _≡_ {A = ℕ} 0 1 = cc in absurd (omega arith)

@@ -68,11 +68,11 @@ cellBytes p = listBytes (cellList p)
 unfoldable pub gateBytes : Pair → List ℕ
 gateBytes p = listBytes (gateList p)
 
-abbrev pub cellSize : ℕ
-cellSize = listSize (limits .total)
+abbrev pub cellListSize : ℕ
+cellListSize = listSize (limits .total)
 
-abbrev pub gateSize : ℕ
-gateSize = listSize 1
+abbrev pub gateListSize : ℕ
+gateListSize = listSize 1
 
 abbrev pub Lists : (Pair → List ℕ) → ℕ → List ℕ → List ℕ → List ℕ → Answer → List ℕ → List ℕ → Type 0
 Lists bytes size s out w r out′ w′ = Call bytes size (bothLent size out w) (checkOf limits s) out w r out′ w′

@@ -56,9 +56,9 @@ abbrev pub held : Limits → List ℕ → Pair → Held
 held lim out p = record { buffer = written pairBytes (pairSize lim) out (accepted p); used = length (pairBytes p) }
 
 -- One edit call with buffers long enough and the true length: accepted, the sheet it writes and its length; refused, no change.
-unfoldable pub after : Limits → Held → Outcome Pair → Held
-after lim h (accepted p) = held lim (h .buffer) p
-after lim h (refused n) = h
+unfoldable pub heldAfter : Limits → Held → Outcome Pair → Held
+heldAfter lim h (accepted p) = held lim (h .buffer) p
+heldAfter lim h (refused n) = h
 
 abbrev pub edits : Limits → Asked → Held → Outcome Pair
 edits lim a h = editedOf lim (take (h .used) (h .buffer)) a
@@ -66,7 +66,7 @@ edits lim a h = editedOf lim (take (h .used) (h .buffer)) a
 -- A run of edit calls, and the edits among them that were accepted.
 unfoldable pub runCalls : Limits → List Asked → Held → Held
 runCalls lim [] h = h
-runCalls lim (a ∷ l) h = runCalls lim l (after lim h (edits lim a h))
+runCalls lim (a ∷ l) h = runCalls lim l (heldAfter lim h (edits lim a h))
 
 abbrev pub ifTaken : Outcome Pair → Edit → List Edit → List Edit
 ifTaken (accepted p) e l = e ∷ l
@@ -74,7 +74,7 @@ ifTaken (refused n) e l = l
 
 unfoldable pub taken : Limits → List Asked → Held → List Edit
 taken lim [] h = []
-taken lim (a ∷ l) h = ifTaken (edits lim a h) (editOf a) (taken lim l (after lim h (edits lim a h)))
+taken lim (a ∷ l) h = ifTaken (edits lim a h) (editOf a) (taken lim l (heldAfter lim h (edits lim a h)))
 
 -- Demand 3, a run that starts from what an accepted move of o left in the buffer `out`: the buffer is, byte for byte, what a
 -- fresh move of the first lists, as the accepted edits have changed them one after another, leaves there; that move is

@@ -1,3 +1,4 @@
 pub mod Misses
 pub mod Turns
 pub mod Agreement
+pub mod Examples

@@ -1,7 +1,7 @@
 -- `foldplover_cell_list` meets its contract: it hands over to `cell_list`. Assumes nothing.
 use borrow.Author.Needs.{needs}
 use native.Mathlib.Omega.{arith}
-use Rattle.planner.specs.Calls.{cellBytes, cellSize}
+use Rattle.planner.specs.Calls.{cellBytes, cellListSize}
 use Rattle.policy.specs.Refusals.{said}
 use Rattle.foldplover.specs.Coded.{Plain}
 use Rattle.foldplover.proofs.Plain.{call-plain}
@@ -12,7 +12,7 @@ cell-list-requires : tie.Need-cell-list-requires
 cell-list-requires c κs = search needs
 
 plain : (c : tie.After-slice-known4) → Plain (said (c .before .before .before .before .cell-list .result))
-plain c = call-plain cellBytes cellSize _ _ _ _ (c .before .before .before .before .cell-list .ensures) (search needs) (omega arith)
+plain c = call-plain cellBytes cellListSize _ _ _ _ (c .before .before .before .before .cell-list .ensures) (search needs) (omega arith)
 
 answer-number-requires : tie.Need-answer-number-requires
 answer-number-requires c κs = plain c

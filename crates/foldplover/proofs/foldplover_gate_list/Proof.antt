@@ -1,7 +1,7 @@
 -- `foldplover_gate_list` meets its contract: it hands over to `gate_list`. Assumes nothing.
 use borrow.Author.Needs.{needs}
 use native.Mathlib.Omega.{arith}
-use Rattle.planner.specs.Calls.{gateBytes, gateSize}
+use Rattle.planner.specs.Calls.{gateBytes, gateListSize}
 use Rattle.policy.specs.Refusals.{said}
 use Rattle.foldplover.specs.Coded.{Plain}
 use Rattle.foldplover.proofs.Plain.{call-plain}
@@ -12,7 +12,7 @@ gate-list-requires : tie.Need-gate-list-requires
 gate-list-requires c κs = search needs
 
 plain : (c : tie.After-slice-known4) → Plain (said (c .before .before .before .before .gate-list .result))
-plain c = call-plain gateBytes gateSize _ _ _ _ (c .before .before .before .before .gate-list .ensures) (search needs) (omega arith)
+plain c = call-plain gateBytes gateListSize _ _ _ _ (c .before .before .before .before .gate-list .ensures) (search needs) (omega arith)
 
 answer-number-requires : tie.Need-answer-number-requires
 answer-number-requires c κs = plain c

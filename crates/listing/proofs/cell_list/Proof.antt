@@ -2,7 +2,7 @@
 use borrow.Author.Needs.{needs}
 use Rattle.policy.specs.Fields.{limits}
 use Rattle.groups.specs.Worked.{workSize}
-use Rattle.planner.specs.Calls.{checkOf, cellBytes, cellSize}
+use Rattle.planner.specs.Calls.{checkOf, cellBytes, cellListSize}
 use Rattle.planner.proofs.Calls.{room-short, work-short, both-there, call-short}
 use Rattle.checking.proofs.Checking.{check-place}
 use Rattle.listing.proofs.Listing.{list-refused, list-written}
@@ -12,12 +12,12 @@ use Rattle.listing.proofs.cell_list.Tie as tie
 returns : tie.Need-returns
 returns c =
     let a = c .before .before .before .before .args in
-    call-short cellBytes cellSize _ (checkOf limits (a .sheet .now)) (a .list .now) (a .work .now) (room-short cellSize (a .list .now) _ (c .if1 .taken))
+    call-short cellBytes cellListSize _ (checkOf limits (a .sheet .now)) (a .list .now) (a .work .now) (room-short cellListSize (a .list .now) _ (c .if1 .taken))
 
 returns-2 : tie.Need-returns-2
 returns-2 c =
     let a = c .before .before .before .before .before .args in
-    call-short cellBytes cellSize _ (checkOf limits (a .sheet .now)) (a .list .now) (a .work .now) (work-short cellSize (workSize limits) (a .list .now) (a .work .now) (c .before .if1 .left) (c .if2 .taken))
+    call-short cellBytes cellListSize _ (checkOf limits (a .sheet .now)) (a .list .now) (a .work .now) (work-short cellListSize (workSize limits) (a .list .now) (a .work .now) (c .before .if1 .left) (c .if2 .taken))
 
 checked-requires : tie.Need-checked-requires
 checked-requires c κs = search needs
@@ -39,7 +39,7 @@ same-length c = search needs
 returns-3 : tie.Need-returns-3
 returns-3 c =
     let a = c .before .before .before .before .before .before .before .before .before .before .before .before .args in
-    list-refused cellBytes cellSize _ (a .sheet .now) (a .list .now) (a .work .now) (both-there cellSize (workSize limits) (a .list .now) (a .work .now) (c .before .before .before .before .before .before .before .before .if1 .left) (c .before .before .before .before .before .before .before .if2 .left))
+    list-refused cellBytes cellListSize _ (a .sheet .now) (a .list .now) (a .work .now) (both-there cellListSize (workSize limits) (a .list .now) (a .work .now) (c .before .before .before .before .before .before .before .before .if1 .left) (c .before .before .before .before .before .before .before .if2 .left))
     (c .before .before .before .before .before .checked .ensures .1) (rw (c .before .f .given .1) at (c .before .before .before .before .before .checked .ensures .0))
 
 same-length-2 : tie.Need-same-length-2
@@ -51,7 +51,7 @@ same-length-3 c = search needs
 returns-4 : tie.Need-returns-4
 returns-4 c =
     let a = c .before .before .before .before .before .before .before .before .before .before .before .before .before .before .before .before .args in
-    list-written cellBytes cellSize _ (a .sheet .now) (a .list .now) (a .work .now) (both-there cellSize (workSize limits) (a .list .now) (a .work .now) (c .before .before .before .before .before .before .before .before .before .before .before .before .if1 .left) (c .before .before .before .before .before .before .before .before .before .before .before .if2 .left))
+    list-written cellBytes cellListSize _ (a .sheet .now) (a .list .now) (a .work .now) (both-there cellListSize (workSize limits) (a .list .now) (a .work .now) (c .before .before .before .before .before .before .before .before .before .before .before .before .if1 .left) (c .before .before .before .before .before .before .before .before .before .before .before .if2 .left))
     (c .before .before .before .before .before .before .before .before .before .checked .ensures .1) (rw (c .before .before .before .before .before .gate .given .1) at (c .before .before .before .before .before .before .before .before .before .checked .ensures .0)) (c .before .before .put-cell-list .ensures)
 
 pub cell-list-spec : {M : Type 1} → statement M

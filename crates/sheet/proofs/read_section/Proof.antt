@@ -42,7 +42,9 @@ is-full-requires : tie.Need-is-full-requires
 is-full-requires c κs = search needs
 
 returns-6 : tie.Need-returns-6
-returns-6 c = search (needs, not-full)
+returns-6 c =
+    not-full _ _ (omega arith) _ (c .before .before .before .before .before .before .before .before .count-at .ensures .0) (omega arith) (omega arith) (omega arith) _
+    (c .before .before .before .before .all-sound .ensures) (c .before .before .before .if5 .left) _ _ (c .before .is-full .ensures) (c .before .before .box-at .ensures) (c .if6 .taken)
 
 returns-7 : tie.Need-returns-7
 returns-7 c =
