@@ -1,6 +1,5 @@
 // Plays the stream of cases on standard input: each order sheet is moved and its edits are done one after another, and the
 // number that each call answers is printed. The format stands in tests/second/README.md.
-use filter::REFUSAL_BASE;
 use foldplover::foldplover_delete;
 use foldplover::foldplover_insert;
 use foldplover::foldplover_move;
@@ -8,6 +7,7 @@ use foldplover::foldplover_replace;
 use groups::WORK_BYTES;
 use policy::COUNT_BYTES;
 use policy::RECORD_BYTES;
+use policy::REFUSAL_BASE;
 use printing::print_number;
 use printing::print_text;
 use sheet::PAIR_BYTES;

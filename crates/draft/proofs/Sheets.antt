@@ -18,17 +18,8 @@ use Rattle.draft.specs.Sheets.{Laid, sheetOf}
 use Rattle.wire.specs.Lists.{countIn}
 
 -- the count at the front, and the boxes copied behind it
-pub group-put : (out c y boxes : List ℕ) (n : ℕ) → c ≡ sets out 0 (numberBytes countSize n)
-    → y ≡ take (length boxes) boxes ++ drop (length boxes) (take (length c - countSize) (drop countSize c))
-    → countSize + length boxes ≤ length out
-    → take countSize c ++ (y ++ drop (length c - countSize) (drop countSize c)) ≡ sets out 0 (numberBytes countSize n ++ boxes)
-group-put out c y boxes n e f h =
-    let l : length c ≡ length out = ap length e ∙ length-sets out 0 (numberBytes countSize n) in
-    let t : length (take (length c - countSize) (drop countSize c)) ≡ length c - countSize = length-take-le (length c - countSize) (drop countSize c) (rw length-drop (omega arith)) in
-    let g : y ≡ sets (take (length c - countSize) (drop countSize c)) 0 boxes = f ∙ copied-sets (take (length c - countSize) (drop countSize c)) boxes (omega arith) in
-    let s : sets out 0 (numberBytes countSize n ++ boxes) ≡ sets c countSize boxes =
-    sets-append out 0 (numberBytes countSize n) boxes ∙ rw (numberBytes-length countSize n, ← e) in
-    rw (g, s) (tail-sets c countSize boxes (omega arith))
+pub group-put : (out c last boxes : List ℕ) (n : ℕ) → c ≡ sets out 0 (numberBytes countSize n) → last ≡ sets c countSize boxes → last ≡ sets out 0 (numberBytes countSize n ++ boxes)
+group-put out c last boxes n e f = f ∙ sym (sets-append out 0 (numberBytes countSize n) boxes ∙ rw (numberBytes-length countSize n, ← e))
 
 -- the group at a place of the draft, as its count and its boxes
 group-lies : (draft : List ℕ) (from start end : ℕ) → Each Byte draft → start ≡ from + countSize → end ≡ start + boxSize * countIn (drop from draft) → end ≤ length draft
@@ -84,14 +75,13 @@ laid-none zero s h l = l
 laid-none (suc left) s h l = absurd (omega arith)
 
 -- the order copied, the count and the groups behind it, zeros behind them
-pub pair-put : (sheet order c₁ c₂ c₃ last draft : List ℕ) (groups middle end most : ℕ) → middle ≡ length order → end ≡ middle + countSize + length draft
-    → c₁ ≡ take (length order) order ++ drop (length order) sheet → c₂ ≡ sets c₁ middle (numberBytes countSize groups) → c₃ ≡ sets c₂ (middle + countSize) draft
+pub pair-put : (sheet order c₁ c₂ c₃ last draft : List ℕ) (groups middle end most : ℕ) → middle ≡ 0 + length order → end ≡ middle + countSize + length draft
+    → c₁ ≡ sets sheet 0 order → c₂ ≡ sets c₁ middle (numberBytes countSize groups) → c₃ ≡ sets c₂ (middle + countSize) draft
     → last ≡ zeroed end most c₃ → end ≤ most → most ≤ length sheet
     → (end ≡ length (sheetOf order groups draft)) × (last ≡ filled most sheet (sheetOf order groups draft))
 pair-put sheet order c₁ c₂ c₃ last draft groups middle end most m e f g h i u v =
     let n = numberBytes-length countSize groups in
-    let z : 0 + length order ≡ length order = omega arith in
     let l : end ≡ length (sheetOf order groups draft) = rw (length-append, length-append) (omega arith) in
     let s : c₃ ≡ sets sheet 0 (sheetOf order groups draft) =
-    h ∙ rw (g, f, copied-sets sheet order (omega arith), sets-append sheet 0 order (numberBytes countSize groups ++ draft), sets-append (sets sheet 0 order) (0 + length order) (numberBytes countSize groups) draft, n, m, z) in
+    h ∙ rw (g, f, sets-append sheet 0 order (numberBytes countSize groups ++ draft), sets-append (sets sheet 0 order) (0 + length order) (numberBytes countSize groups) draft, n, m) in
     (l, filled-is (sheetOf order groups draft) sheet c₃ last end most l u v (s ∙ rw l (sym (copied-sets sheet (sheetOf order groups draft) (omega arith)))) i)

@@ -61,7 +61,7 @@ fn put_group(out: &mut [u8], n: usize, boxes: &[u8])
     ensures { λ r. ⌜ now (out .exit) ≡ sets (now (out .entry)) 0 (numberBytes countSize n ++ now (boxes .entry)) ⌝ }
 {
     wire::put_count(out, 0, n);
-    bytes::copy(boxes, &mut out[COUNT_BYTES..]);
+    wire::put_bytes(out, COUNT_BYTES, boxes);
 }
 
 // A group of n boxes behind what the draft holds, unless the boxes, these among them, are more than fit; where the draft ends.
@@ -156,7 +156,7 @@ pub fn put_pair(sheet: &mut [u8], order: &[u8], groups: usize, draft: &[u8]) -> 
     requires { ⌜ (Laid groups (now draft)) × (groups < 65536) × (length (now order) + (countSize + length (now draft)) ≤ pairSize limits) × (pairSize limits ≤ length (now sheet)) ⌝ }
     ensures { λ r. ⌜ (r ≡ length (sheetOf (now (order .entry)) groups (now (draft .entry)))) × (now (sheet .exit) ≡ filled (pairSize limits) (now (sheet .entry)) (sheetOf (now (order .entry)) groups (now (draft .entry)))) ⌝ }
 {
-    let middle = bytes::copy(order, sheet);
+    let middle = wire::put_bytes(sheet, 0, order);
     wire::put_count(sheet, middle, groups);
     let start = middle + COUNT_BYTES;
     put_groups(sheet, start, groups, draft);

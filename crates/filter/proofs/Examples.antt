@@ -1,7 +1,7 @@
 -- Two lookups, computed: a bad rule is refused before the packet is compared with it, and behind the rule that fits it is not
 -- looked at. Assumes nothing.
 use mathlib.Core.Path.{_≡_, refl}
-use mathlib.Core.List.{List, [], _∷_}
+use mathlib.Core.List.{[], _∷_}
 use lib.ListN.{drop}
 use Rattle.policy.specs.Fields.{highest}
 use Rattle.policy.specs.Ranges.{range, Packet, inside, fullOver, everyField}

@@ -11,13 +11,13 @@ use borrow.Author.Tests.{leb-true}
 use Rattle.policy.specs.Fields.{countSize}
 use Rattle.policy.specs.Ranges.{Packet, inside}
 use Rattle.policy.specs.Rules.{Rule, sound}
-use Rattle.policy.specs.Refusals.{Outcome, accepted, refused, test, numberOf}
+use Rattle.policy.specs.Refusals.{refusalBase, Outcome, accepted, refused, test, numberOf}
 use Rattle.policy.specs.declared.Refusal.{Refusal}
 use Rattle.policy.proofs.Answers.{number-once, test-accepted}
 use Rattle.wire.specs.Numbers.{numberIn}
 use Rattle.wire.specs.Records.{rulesIn}
 use Rattle.wire.proofs.Records.{sound-action, rulesIn-length}
-use Rattle.filter.specs.Lookup.{Hit, hit, lookFrom, lookup, refusalBase, lookupNumber}
+use Rattle.filter.specs.Lookup.{Hit, hit, lookFrom, lookup, lookupNumber}
 use Rattle.filter.specs.Verdicts.{verdict}
 use Rattle.filter.specs.declared.Verdict.{Verdict}
 use Rattle.filter.specs.declared.Verdict.the-variants.{Decided, Refused}
@@ -79,9 +79,9 @@ module _ (most : ℕ) (p : Packet) (s : List ℕ) (v : Verdict) (says : verdict 
     unfolding lookupNumber
     decided-number = sym (ap lookupNumber decided)
 
-  pub refused-number : (f : Refusal) (m : ℕ) → v ≡ Refused f → m ≡ numberOf f → refusalBase + m ≡ lookupNumber (lookup most p s)
+  pub refused-number : (f : Refusal) → v ≡ Refused f → refusalBase + numberOf f ≡ lookupNumber (lookup most p s)
   unfolding lookupNumber
-  refused-number f m is e = rw e (sym (ap lookupNumber (sym says ∙ ap verdict is)))
+  refused-number f is = sym (ap lookupNumber (sym says ∙ ap verdict is))
 
 -- The number for C tells the whole outcome: no two outcomes of lookups have the same.
 pub tells : (n : ℕ) → 2 * n ≤ refusalBase → (o q : Outcome Hit) → ((h : Hit) → o ≡ accepted h → Small n h) → ((h : Hit) → q ≡ accepted h → Small n h)

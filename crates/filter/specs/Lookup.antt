@@ -7,7 +7,7 @@ use lib.ListN.{length, drop}
 use Rattle.policy.specs.Fields.{countSize}
 use Rattle.policy.specs.Ranges.{Packet, inside}
 use Rattle.policy.specs.Rules.{Rule, sound}
-use Rattle.policy.specs.Refusals.{Outcome, accepted, refused, test}
+use Rattle.policy.specs.Refusals.{refusalBase, Outcome, accepted, refused, test}
 use Rattle.wire.specs.Records.{rulesIn}
 use Rattle.wire.specs.Lists.{countIn, listSize}
 
@@ -35,9 +35,6 @@ lookup most p s =
     (lookFrom 0 p (rulesIn (countIn s) (drop countSize s))))))
 
 -- For C one number: twice the place and the action, or 65,536 and the refusal.
-abbrev pub refusalBase : ℕ
-refusalBase = 65536
-
 unfoldable pub lookupNumber : Outcome Hit → ℕ
 lookupNumber (accepted h) = 2 * h .place + h .action
 lookupNumber (refused n) = refusalBase + n

@@ -5,7 +5,7 @@ use policy::Packet;
 use policy::RECORD_BYTES;
 use policy::Refusal;
 use policy::TOTAL_MOST;
-use policy::number_of;
+use policy::refused_number;
 use wire::count_at;
 use wire::rule_at;
 ghost use mathlib.Core.Path.{_≡_};
@@ -18,9 +18,6 @@ ghost use Rattle.wire.specs.Records.{rulesIn};
 ghost use Rattle.filter.specs.Lookup.{lookFrom, lookup, lookupNumber};
 ghost use Rattle.wire.specs.Lists.{listSize};
 ghost use Rattle.filter.specs.Verdicts.{verdict};
-
-// For C a refusal is this and its number.
-pub const REFUSAL_BASE: u32 = 65536;
 
 // The rule that decides, or the refusal.
 pub enum Verdict {
@@ -93,6 +90,6 @@ pub fn lookup_number(p: Packet, list: &[u8]) -> u32
 {
     match lookup(p, list) {
         Verdict::Decided { place, action } => 2 * (place as u32) + action,
-        Verdict::Refused(f) => REFUSAL_BASE + number_of(f),
+        Verdict::Refused(f) => refused_number(f),
     }
 }

@@ -2,20 +2,19 @@
 use mathlib.Core.Path.{_≡_, ap, sym, subst, _∙_}
 use Prim.Native.Nat.{ℕ, _+_, _<_}
 use native.Mathlib.Omega.{arith}
-use Rattle.policy.specs.Refusals.{Outcome, accepted, refused, numberOf, said}
+use Rattle.policy.specs.Refusals.{refusalBase, Outcome, accepted, refused, numberOf, said}
 use Rattle.policy.specs.declared.Answer.{Answer}
 use Rattle.policy.specs.declared.Answer.the-variants.{Length, Refused}
 use Rattle.policy.specs.declared.Refusal.{Refusal}
 use Rattle.policy.proofs.Answers.{said-once}
-use Rattle.filter.specs.Lookup.{refusalBase}
 use Rattle.foldplover.specs.Coded.{coded, Plain, Coded}
 
 module _ (a : Answer) where
   pub length-small : Plain (said a) → (n : ℕ) → a ≡ Length n → n < refusalBase
   length-small h n e = subst (λ (q : Answer). Plain (said q)) e h
 
-  pub refused-number : (f : Refusal) (k : ℕ) → a ≡ Refused f → k ≡ numberOf f → refusalBase + k ≡ coded (said a)
-  refused-number f k e h = rw h (sym (ap (λ (q : Answer). coded (said q)) e))
+  pub refused-number : (f : Refusal) → a ≡ Refused f → refusalBase + numberOf f ≡ coded (said a)
+  refused-number f e = sym (ap (λ (q : Answer). coded (said q)) e)
 
 -- The number tells the outcome: no two have the same.
 tells : (x y : Outcome ℕ) → Plain x → Plain y → coded x ≡ coded y → x ≡ y

@@ -10,7 +10,7 @@ use lib.ListN.{length}
 use borrow.Author.Tests.{leb-true}
 use Rattle.policy.specs.Fields.{limits, recordSize}
 use Rattle.policy.specs.Rules.{Rule}
-use Rattle.policy.specs.Refusals.{Outcome, accepted, refused, test, said}
+use Rattle.policy.specs.Refusals.{refusalBase, Outcome, accepted, refused, test, said}
 use Rattle.policy.specs.Move.{Order, Pair}
 use Rattle.policy.specs.declared.Answer.{Answer}
 use Rattle.policy.specs.declared.Answer.the-variants.{Length, Refused}
@@ -22,7 +22,6 @@ use Rattle.orders.specs.Join.{joinOf, Join}
 use Rattle.groups.specs.Worked.{workSize}
 use Rattle.planner.specs.Calls.{roomFor, Call, checkOf, yes, Checks}
 use Rattle.planner.proofs.Lengths.{filled-within, call-length}
-use Rattle.filter.specs.Lookup.{refusalBase}
 use Rattle.foldplover.specs.Coded.{Plain}
 use Rattle.wire.specs.Lists.{listBytes}
 use Rattle.wire.specs.Buffers.{written, lengthOf}

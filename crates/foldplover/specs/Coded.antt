@@ -1,9 +1,8 @@
 -- The one number that C gets for an answer. Assumes nothing.
 use mathlib.Core.Path.{_≡_}
 use Prim.Native.Nat.{ℕ, _+_, _<_}
-use Rattle.policy.specs.Refusals.{Outcome, accepted, refused, said}
+use Rattle.policy.specs.Refusals.{refusalBase, Outcome, accepted, refused, said}
 use Rattle.policy.specs.declared.Answer.{Answer}
-use Rattle.filter.specs.Lookup.{refusalBase}
 
 -- A value as it stands; a refusal as 65,536 and its number.
 abbrev pub coded : Outcome ℕ → ℕ

@@ -1,11 +1,10 @@
 // The calls for C. Each hands over to the call of the crate below, and turns its answer into one number.
 pub mod lookup_table;
 
-use filter::REFUSAL_BASE;
 use planner::Change;
 use policy::Answer;
 use policy::Packet;
-use policy::number_of;
+use policy::refused_number;
 ghost use mathlib.Core.Path.{_≡_};
 ghost use mathlib.Core.List.{[], _∷_};
 ghost use Rattle.policy.specs.Fields.{limits};
@@ -26,7 +25,7 @@ fn answer_number(a: Answer) -> u32
 {
     match a {
         Answer::Length(n) => n as u32,
-        Answer::Refused(f) => REFUSAL_BASE + number_of(f),
+        Answer::Refused(f) => refused_number(f),
     }
 }
 

@@ -10,9 +10,10 @@ use Rattle.lists.specs.Lists.{Each}
 use Rattle.lists.proofs.Lists.{each-imp, each-take, each-drop}
 use Rattle.policy.specs.Fields.{widths, boxSize}
 use Rattle.policy.specs.Ranges.{Region}
+use Rattle.policy.specs.Rules.{Proper}
 use Rattle.wire.specs.Records.{boxBytes, boxIn, boxesBytes, boxesIn, Fits}
 use Rattle.wire.proofs.Records.{proper-fits, boxBytes-length, box-back, boxesBytes-length, boxesIn-length, box-in-place}
-use Rattle.groups.specs.Stores.{Proper, Stands}
+use Rattle.groups.specs.Stores.{Stands}
 
 drop-take : {A : Type 0} (n m : ℕ) (l : List A) → drop n (take (n + m) l) ≡ take m (drop n l)
 drop-take zero m l = let e : 0 + m ≡ m = omega arith in ap (λ (k : ℕ). take k l) e

@@ -9,6 +9,7 @@ use Rattle.lists.specs.Lists.{Each}
 use Rattle.lists.proofs.Lists.{each-append, each-drop, each-imp}
 use Rattle.policy.specs.Fields.{widths, highest, boxSize}
 use Rattle.policy.specs.Ranges.{Region}
+use Rattle.policy.specs.Rules.{Proper}
 use Rattle.policy.specs.Demands.{Piece}
 use Rattle.policy.specs.Cut.{cut, cutEach}
 use Rattle.policy.proofs.Cuts.{cut-inside}
@@ -16,7 +17,7 @@ use Rattle.policy.proofs.Moves.{proper-whole}
 use Rattle.policy.proofs.Proper.{proper-piece}
 use Rattle.wire.specs.Records.{boxesBytes, boxesIn, Fits}
 use Rattle.wire.proofs.Records.{boxesBytes-length, boxesIn-length, boxes-back}
-use Rattle.groups.specs.Stores.{places, Stored, Proper, Stands, Untouched, copiedDown, Taken}
+use Rattle.groups.specs.Stores.{places, Stored, Stands, Untouched, copiedDown, Taken}
 use Rattle.groups.proofs.Stores.{take-store, drop-store, store-fits}
 use Rattle.groups.proofs.Pieces.{boxes-bytes, proper-all, bytes-before}
 

@@ -12,7 +12,7 @@ use Rattle.lists.specs.Lists.{Each, every}
 use Rattle.lists.proofs.Tests.{and-true}
 use Rattle.policy.specs.Fields.{widths, recordSize, boxSize, limits}
 use Rattle.policy.specs.Ranges.{Region}
-use Rattle.policy.specs.Rules.{Rule, rule, sound, allowsIn}
+use Rattle.policy.specs.Rules.{Rule, rule, Proper, sound, allowsIn}
 use Rattle.policy.specs.Cut.{cutEach, group}
 use Rattle.policy.specs.Move.{over}
 use Rattle.policy.proofs.Moves.{rule-proper}
@@ -20,7 +20,7 @@ use Rattle.wire.specs.Records.{boxBytes, boxIn, boxesBytes, boxesIn, ruleIn, ru
 use Rattle.wire.proofs.Records.{proper-fits, boxBytes-length, box-back, boxesIn-length, rulesIn-length, rule-in-place}
 use Rattle.groups.specs.Worked.{workSize, startAt, allowsAt, workedOf, GroupStands, WorkedOut}
 use Rattle.groups.specs.declared.Worked.the-variants.{Boxes, TooMany}
-use Rattle.groups.specs.Stores.{places, Proper, Stands, Taken}
+use Rattle.groups.specs.Stores.{places, Stands, Taken}
 use Rattle.groups.proofs.Stores.{drop-sets}
 use Rattle.groups.proofs.Taken.{cutEach-proper}
 

@@ -2,15 +2,15 @@
 -- Assumes nothing.
 use mathlib.Core.Path.{_≡_}
 use mathlib.Core.List.{List, [], _∷_, _++_}
-use mathlib.Core.Bool.{true, cond}
+use mathlib.Core.Bool.{cond}
 use Prim.Native.Nat.{ℕ, _+_, _-_, _*_, _≤_}
 use lib.Dec.{ltb}
-use lib.ListN.{length, take, drop, set}
+use lib.ListN.{length, take, drop}
 use lib.Seq.{sets}
 use Rattle.lists.specs.Lists.{Each}
-use Rattle.policy.specs.Fields.{fields, highest, boxSize, limits}
-use Rattle.policy.specs.Ranges.{range, Region, proper}
-use Rattle.policy.specs.Values.{rangeAt}
+use Rattle.policy.specs.Fields.{fields, boxSize, limits}
+use Rattle.policy.specs.Ranges.{Region}
+use Rattle.policy.specs.Rules.{Proper}
 use Rattle.policy.specs.Cut.{cutEach}
 use Rattle.wire.specs.Records.{boxBytes, boxesBytes, boxesIn}
 
@@ -35,17 +35,7 @@ pub record Stored (half : ℕ) (work : List ℕ) (m : ℕ) (bs : List Region) (w
   pub count : r ≡ m + length bs
   pub bytes : work′ ≡ store half work m bs
 
--- The part of b whose field k is below x, if any, and the part above x, if any.
-abbrev pub partBelow : Region → ℕ → ℕ → List Region
-partBelow b k x = cond (ltb (rangeAt b k .low) x) (set b k (range (rangeAt b k .low) (x - 1)) ∷ []) []
-
-abbrev pub partAbove : Region → ℕ → ℕ → List Region
-partAbove b k x = cond (ltb x (rangeAt b k .high)) (set b k (range (x + 1) (rangeAt b k .high)) ∷ []) []
-
 -- n pieces stand at the front: each is a box that number 4 lets pass, and its bytes are those of the box.
-abbrev pub Proper : Region → Type 0
-Proper b = proper highest b ≡ true
-
 pub record Stands (n : ℕ) (work : List ℕ) : Type 0 where
   pub each : Each Proper (boxesIn n work)
   pub written : take (boxSize * n) work ≡ boxesBytes (boxesIn n work)

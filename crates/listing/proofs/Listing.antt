@@ -8,7 +8,7 @@ use lib.ListN.{length, take, drop, length-append, length-drop}
 use lib.Seq.{sets, drop-drop, length-sets, length-take-le}
 use Rattle.lists.specs.Lists.{Each}
 use Rattle.lists.proofs.Lists.{append-none, sets-append}
-use Rattle.lists.proofs.Parts.{copied-sets, tail-sets}
+use Rattle.lists.proofs.Parts.{copied-sets}
 use Rattle.policy.specs.Fields.{boxSize, countSize, recordSize, actionSize, limits}
 use Rattle.policy.specs.Ranges.{Region}
 use Rattle.policy.specs.Rules.{Rule, rule, full, denies}
@@ -185,25 +185,20 @@ module _ {s : List ℕ} {n m middle third boxes : ℕ} (p : PairPlace s n m midd
       → (third + countSize + (countSize * g + boxSize * boxCount g (drop (third + countSize) s)) ≤ length s) × (boxCount g (drop (third + countSize) s) ≡ boxes)
   cell-groups g e = rw e (omega (arith, p .end, p .boxesAre), sym (p .boxesAre))
 
-  pub cell-put : (list c₁ c₂ y last : List ℕ) (g start end most : ℕ) → g ≡ groups → start ≡ countSize + recordSize * boxes → end ≡ start + length own → end ≤ most → most ≤ length list
+  pub cell-put : (list c₁ c₂ c₃ last : List ℕ) (g start end most : ℕ) → g ≡ groups → start ≡ countSize + recordSize * boxes → end ≡ start + length own → end ≤ most → most ≤ length list
       → c₁ ≡ sets list 0 (numberBytes countSize (boxes + m)) → c₂ ≡ sets c₁ countSize (groupRecords g (drop (third + countSize) s))
-      → y ≡ take (length own) own ++ drop (length own) (take (length c₂ - start) (drop start c₂))
-      → last ≡ zeroed end most (take start c₂ ++ (y ++ drop (length c₂ - start) (drop start c₂))) → ListPut (cellBytes pair) most list end last
-  cell-put list c₁ c₂ y last g start end most d i j h k e f₀ u₀ q =
+      → c₃ ≡ sets c₂ start own → last ≡ zeroed end most c₃ → ListPut (cellBytes pair) most list end last
+  cell-put list c₁ c₂ c₃ last g start end most d i j h k e f₀ u q =
       let head : List ℕ = numberBytes countSize (boxes + m) in
       let boxed : List ℕ = groupRecords groups (drop (third + countSize) s) in
       let f : c₂ ≡ sets c₁ countSize boxed = f₀ ∙ rw d refl in
-      let lc : length c₂ ≡ length list = ap length f ∙ (length-sets c₁ countSize boxed ∙ (ap length e ∙ length-sets list 0 head)) in
-      let lt : length (take (length c₂ - start) (drop start c₂)) ≡ length c₂ - start = length-take-le (length c₂ - start) (drop start c₂) (rw length-drop (omega arith)) in
       let lb : length boxed ≡ recordSize * boxes = rw (p .boxesAre) (group-records-length groups (drop (third + countSize) s) (rw length-drop (omega (arith, p .end, p .boxesAre))) (bytes-drop (third + countSize) s bytes)) in
       let lh : length head ≡ countSize = numberBytes-length countSize (boxes + m) in
-      let u : y ≡ sets (take (length c₂ - start) (drop start c₂)) 0 own = u₀ ∙ copied-sets (take (length c₂ - start) (drop start c₂)) own (omega arith) in
-      let v : take start c₂ ++ (y ++ drop (length c₂ - start) (drop start c₂)) ≡ sets c₂ start own = rw u (tail-sets c₂ start own (omega arith)) in
       let w : sets c₂ start own ≡ sets (sets (sets list 0 head) (length head) boxed) (length head + length boxed) own =
       let x : length head + length boxed ≡ start = omega arith in
       rw (x, f, e, lh) refl in
       let l : end ≡ length (head ++ (boxed ++ own)) = sym (rw (length-append, length-append) (omega arith)) in
-      record { answer = rw cell-content l; result = rw cell-content (three-filled list head boxed own last end most l h k (rw (← w, ← v) q)) }
+      record { answer = rw cell-content l; result = rw cell-content (three-filled list head boxed own last end most l h k (rw (← w, ← u) q)) }
 
 -- The gate list: the count and the one rule, which fill it.
 pub gate-put : (p : Pair) (list c₁ last : List ℕ) (r : Rule) → gateListSize ≤ length list → r ≡ rule full 1 → c₁ ≡ sets list 0 (numberBytes countSize 1)

@@ -80,7 +80,7 @@ fn put_cell_list(
     deny_groups(list, COUNT_BYTES, sheet, third + COUNT_BYTES, groups);
     let start = COUNT_BYTES + RECORD_BYTES * boxes;
     let first = middle + COUNT_BYTES;
-    let end = start + bytes::copy(&sheet[first..third], &mut list[start..]);
+    let end = wire::put_bytes(list, start, &sheet[first..third]);
     wire::zero(list, end, CELL_LIST_BYTES);
     end
 }

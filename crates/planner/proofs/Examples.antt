@@ -1,7 +1,7 @@
 -- A run of two edits, computed on small limits: the first names a place that is not there, the second makes the cell's one rule
 -- a deny. Assumes nothing.
 use mathlib.Core.Path.{_≡_, refl}
-use mathlib.Core.List.{List, [], _∷_}
+use mathlib.Core.List.{[], _∷_}
 use Prim.Native.Nat.{ℕ}
 use lib.ListN.{getD}
 use Rattle.lists.specs.Lists as L
@@ -20,7 +20,7 @@ use Rattle.sheet.specs.Orders.{orderBytes}
 use Rattle.sheet.specs.Pairs.{pairIn, pairBytes, groupSection, groupsIn, groupsBytes}
 use Rattle.planner.specs.declared.Change.the-variants.{Replace}
 use Rattle.planner.specs.Edits.{Asked, asked, changeOf, editedOf}
-use Rattle.planner.specs.Demands.{Held, held, heldAfter, runCalls}
+use Rattle.planner.specs.Demands.{held, heldAfter, runCalls}
 
 abbrev few : Limits
 few = record { gate = 1; own = 1; pieces = 1; total = 1 }

@@ -11,7 +11,7 @@ use Rattle.lists.specs.Lists.{Each}
 use Rattle.lists.proofs.Lists.{each-append, each-drop, each-imp, map-append, every-each}
 use Rattle.policy.specs.Fields.{countSize, highest, limits}
 use Rattle.policy.specs.Ranges.{proper}
-use Rattle.policy.specs.Rules.{Rule, denies, allowsIn}
+use Rattle.policy.specs.Rules.{Rule, denies, allowsIn, Proper}
 use Rattle.policy.specs.Refusals.{Outcome, refused, faults, numberOf}
 use Rattle.policy.specs.Move.{Slot, slots, boxesOf, together, anyOver, work, room, Order, Pair}
 use Rattle.policy.specs.declared.Answer.the-variants.{Length, Refused}
@@ -20,7 +20,7 @@ use Rattle.policy.specs.declared.Refusal.the-variants.{TooManyBoxes}
 use Rattle.groups.specs.Worked.{workSize}
 use Rattle.policy.proofs.Numbers.{orElse-zero}
 use Rattle.policy.proofs.Edits.{slots-append, kept-boxes, faults-append, list-accepted}
-use Rattle.policy.proofs.Proper.{Proper, moved-proper}
+use Rattle.policy.proofs.Proper.{moved-proper}
 use Rattle.wire.specs.Numbers.{Byte}
 use Rattle.wire.specs.Records.{rulesIn}
 use Rattle.wire.specs.Buffers.{filled, written, lengthOf}

@@ -11,11 +11,11 @@ use Rattle.lists.specs.Lists.{Each}
 use Rattle.lists.proofs.Lists.{each-append, each-imp, every-each}
 use Rattle.policy.specs.Fields.{highest, boxSize, countSize, Limits}
 use Rattle.policy.specs.Ranges.{Region, proper, everyField, fullOver}
-use Rattle.policy.specs.Rules.{Rule, sound, complete}
+use Rattle.policy.specs.Rules.{Rule, sound, complete, Proper}
 use Rattle.policy.specs.Refusals.{faults}
 use Rattle.policy.specs.Move.{slotsOf, startOf, boxesOf, together, work, room, Order, Pair, moved, denials, gateList, cellList, listRefusal, moveRefusal}
 use Rattle.policy.proofs.Numbers.{orElse-zero, orElse-both, given-zero}
-use Rattle.policy.proofs.Proper.{Proper, moved-proper}
+use Rattle.policy.proofs.Proper.{moved-proper}
 use Rattle.policy.proofs.Edits.{move-accepted, list-accepted, slots-length, faults-append}
 use Rattle.wire.proofs.Numbers.{numberBytes-length}
 use Rattle.sheet.specs.Orders.{orderBytes}

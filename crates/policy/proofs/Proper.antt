@@ -11,16 +11,13 @@ use Rattle.lists.proofs.Tests.{and-true, and-both}
 use Rattle.lists.proofs.Lists.{each-append, each-imp}
 use Rattle.policy.specs.Fields.{highest}
 use Rattle.policy.specs.Ranges.{Region, Whole, Within, everyField, properRange, proper}
-use Rattle.policy.specs.Rules.{Rule, isAllow}
+use Rattle.policy.specs.Rules.{Rule, isAllow, Proper}
 use Rattle.policy.specs.Cut.{group}
 use Rattle.policy.specs.Refusals.{faults}
 use Rattle.policy.specs.Move.{anew, slots, boxesOf, Order, moved}
 use Rattle.policy.specs.Demands.{Piece}
 use Rattle.policy.proofs.Groups.{group-inside}
 use Rattle.policy.proofs.Moves.{faults-cons, rule-proper, proper-whole}
-
-abbrev pub Proper : Region → Type 0
-Proper b = proper highest b ≡ true
 
 -- a piece of a proper box is proper
 pub proper-piece : (hs : List ℕ) (d b : Region) → proper hs d ≡ true → Piece d b → proper hs b ≡ true

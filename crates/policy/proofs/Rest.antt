@@ -13,15 +13,8 @@ use borrow.Author.Tests.{le-leb, lt-leb, le-ltb}
 use Rattle.lists.proofs.Lists.{map-append}
 use Rattle.lists.proofs.Tests.{and-both}
 use Rattle.policy.specs.Ranges.{Range, range, Region}
-use Rattle.policy.specs.Values.{rangeAt}
+use Rattle.policy.specs.Values.{rangeAt, partBelow, partAbove}
 use Rattle.policy.specs.Cut.{meets, shared, after, before, pieces, cut}
-
--- The part of d whose field k is below x, if any, and the part above x, if any.
-abbrev partBelow : Region → ℕ → ℕ → List Region
-partBelow d k x = cond (ltb (rangeAt d k .low) x) (set d k (range (rangeAt d k .low) (x - 1)) ∷ []) []
-
-abbrev partAbove : Region → ℕ → ℕ → List Region
-partAbove d k x = cond (ltb x (rangeAt d k .high)) (set d k (range (x + 1) (rangeAt d k .high)) ∷ []) []
 
 abbrev behind : Region → Region → Region
 behind front p = front ++ p

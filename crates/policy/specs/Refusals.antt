@@ -31,6 +31,10 @@ numberOf TooManyBoxes = 7
 numberOf GroupsDiffer = 8
 numberOf NoPlace = 9
 
+-- For C an answer is one number: a refusal is this and its own, above every value.
+abbrev pub refusalBase : ℕ
+refusalBase = 65536
+
 -- What a call comes to: a value, or the number that it is refused with.
 pub data Outcome (A : Type 0) : Type 0 where
   accepted : A → Outcome A

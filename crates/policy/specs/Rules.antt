@@ -1,7 +1,8 @@
 -- Rules and lists: first match, completeness, and what a list and a pair do with a packet (01, The five fields).
 -- Assumes nothing.
+use mathlib.Core.Path.{_≡_}
 use mathlib.Core.List.{List, [], _∷_}
-use mathlib.Core.Bool.{Bool, false, cond, not, _&&_, _||_}
+use mathlib.Core.Bool.{Bool, true, false, cond, not, _&&_, _||_}
 use Prim.Native.Nat.{ℕ, suc}
 use lib.Dec.{leb, eqb}
 use Rattle.policy.specs.Fields.{highest}
@@ -21,6 +22,10 @@ isAllow r = eqb (r .action) 1
 -- The box that is full in every field of the table.
 abbrev pub full : Region
 full = fullOver highest
+
+-- A box that number 4 lets pass.
+abbrev pub Proper : Region → Type 0
+Proper b = proper highest b ≡ true
 
 -- Number 4 is given unless no low is above its high, no value above its field's highest, and the action is at most 1.
 unfoldable pub sound : Rule → Bool

@@ -6,7 +6,7 @@ ghost use lib.ListN.{length, getD, set};
 ghost use Rattle.policy.specs.Fields.{fields, highest};
 ghost use Rattle.policy.specs.Ranges.{range, properRange, proper, fullRange, isFull};
 ghost use Rattle.policy.specs.Rules.{sound};
-ghost use Rattle.policy.specs.Refusals.{numberOf};
+ghost use Rattle.policy.specs.Refusals.{numberOf, refusalBase};
 ghost use Rattle.policy.specs.Values.{regionOf, rangeAt, ruleOf};
 
 // The fields' table: source address, destination address, source port, destination port, protocol.
@@ -31,6 +31,9 @@ pub const OWN_MOST: usize = 256;
 pub const PIECES_MOST: usize = 1024;
 
 pub const TOTAL_MOST: usize = 1024;
+
+// For C a refusal is this and its number.
+pub const REFUSAL_BASE: u32 = 65536;
 
 // A range for each field. Boxes and rules lie in memory as C lays them out, so that C can lend a table of them.
 #[repr(C)]
@@ -81,6 +84,13 @@ pub fn number_of(f: Refusal) -> u32
         Refusal::GroupsDiffer => 8,
         Refusal::NoPlace => 9,
     }
+}
+
+// The one number that C gets for a refusal.
+pub fn refused_number(f: Refusal) -> u32
+    ensures { λ r. ⌜ r ≡ refusalBase + numberOf f ⌝ }
+{
+    REFUSAL_BASE + number_of(f)
 }
 
 fn is_proper_range(low: u32, high: u32, most: u32) -> bool

@@ -12,12 +12,12 @@ use Rattle.lists.specs.Lists.{Each}
 use Rattle.policy.specs.Fields.{countSize}
 use Rattle.policy.specs.Ranges.{Packet}
 use Rattle.policy.specs.Rules.{Rule, sound, first}
-use Rattle.policy.specs.Refusals.{Outcome, accepted, test, faults}
+use Rattle.policy.specs.Refusals.{refusalBase, Outcome, accepted, test, faults}
 use Rattle.policy.proofs.Answers.{test-accepted}
 use Rattle.wire.specs.Numbers.{numberIn}
 use Rattle.wire.specs.Records.{rulesIn}
 use Rattle.wire.proofs.Records.{RuleFits, sound-fits, rulesIn-length}
-use Rattle.filter.specs.Lookup.{Hit, lookFrom, lookup, refusalBase, lookupNumber}
+use Rattle.filter.specs.Lookup.{Hit, lookFrom, lookup, lookupNumber}
 use Rattle.filter.specs.Verdicts.{decidedBy}
 use Rattle.filter.proofs.Lists.{look-first}
 use Rattle.wire.proofs.Lists.{listBytes-length, list-count, list-rules}

@@ -1,6 +1,6 @@
 -- One lookup in a table, computed: behind the rule that fits, a bad one is not looked at. Assumes nothing.
 use mathlib.Core.Path.{_≡_, refl}
-use mathlib.Core.List.{List, [], _∷_}
+use mathlib.Core.List.{[], _∷_}
 use Rattle.policy.specs.Fields.{highest}
 use Rattle.policy.specs.Ranges.{inside, fullOver, everyField}
 use Rattle.policy.specs.Rules.{full, rule, sound}

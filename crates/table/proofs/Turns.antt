@@ -13,24 +13,24 @@ use borrow.Author.Tests.{le-leb, lt-leb, leb-true, ltb-true, ltb-false, eq-eqb, 
 use Rattle.lists.proofs.Tests.{and-true}
 use Rattle.policy.specs.Ranges.{Packet, inside}
 use Rattle.policy.specs.Rules.{Rule, sound}
-use Rattle.policy.specs.Refusals.{Outcome, accepted, refused, test}
+use Rattle.policy.specs.Refusals.{refusalBase, Outcome, accepted, refused, test}
 use Rattle.wire.proofs.Records.{sound-action}
-use Rattle.filter.specs.Lookup.{Hit, hit, lookFrom, refusalBase, lookupNumber}
+use Rattle.filter.specs.Lookup.{Hit, hit, lookFrom, lookupNumber}
 use Rattle.table.specs.Table.{lookupTable, noneFits, counted, goingOn}
 
 -- The count, before any rule is looked at.
 module _ (most n : ℕ) where
-  pub counted-none : n < 1 → lookupNumber (refused 2) ≡ counted most n
-  unfolding counted
+  pub counted-none : n < 1 → refusalBase + 2 ≡ counted most n
+  unfolding counted lookupNumber
   counted-none h = rw (lt-leb 1 n h) refl
 
   module _ (some : 1 ≤ n) where
-    pub counted-many : most < n → lookupNumber (refused 2) ≡ counted most n
-    unfolding counted
+    pub counted-many : most < n → refusalBase + 2 ≡ counted most n
+    unfolding counted lookupNumber
     counted-many h = rw (le-leb 1 n some, lt-leb n most h) refl
 
-    pub counted-well : n ≤ most → noneFits ≡ counted most n
-    unfolding counted
+    pub counted-well : n ≤ most → refusalBase + 5 ≡ counted most n
+    unfolding counted lookupNumber
     counted-well h = rw (le-leb 1 n some, le-leb n most h) refl
 
 -- One rule at place i, judged alone.
@@ -38,8 +38,8 @@ abbrev pub judged : ℕ → Packet → Rule → ℕ
 judged i p r = lookupNumber (lookFrom i p (r ∷ []))
 
 module _ (i : ℕ) (p : Packet) (r : Rule) where
-  pub judged-bad : sound r ≡ false → lookupNumber (refused 4) ≡ judged i p r
-  unfolding lookFrom
+  pub judged-bad : sound r ≡ false → refusalBase + 4 ≡ judged i p r
+  unfolding lookFrom lookupNumber
   judged-bad e = rw e refl
 
   module _ (well : sound r ≡ true) where
@@ -47,8 +47,8 @@ module _ (i : ℕ) (p : Packet) (r : Rule) where
     unfolding lookFrom lookupNumber
     judged-fits f = rw (well, f) refl
 
-    pub judged-misses : inside p (r .region) ≡ false → noneFits ≡ judged i p r
-    unfolding lookFrom
+    pub judged-misses : inside p (r .region) ≡ false → refusalBase + 5 ≡ judged i p r
+    unfolding lookFrom lookupNumber
     judged-misses f = rw (well, f) refl
 
 -- A turn: where the rule at place i has not decided, the next ones do.

@@ -1,6 +1,5 @@
 // Lookup of a packet in a table of rules in memory. `judge_at` and `lookup_number` are lent the slice and are walked by hand;
 // they are thin, and what they decide stands in the functions before them.
-use filter::REFUSAL_BASE;
 use filter::is_within;
 use policy::Box;
 use policy::FIELDS;
@@ -8,24 +7,16 @@ use policy::Packet;
 use policy::Refusal;
 use policy::Rule;
 use policy::TOTAL_MOST;
-use policy::number_of;
+use policy::refused_number;
 ghost use mathlib.Core.Path.{_≡_};
 ghost use mathlib.Core.List.{[], _∷_, map};
 ghost use Prim.Native.Nat.{_<_, _≤_};
 ghost use lib.ListN.{length, getD};
 ghost use Rattle.policy.specs.Fields.{limits};
 ghost use Rattle.policy.specs.Ranges.{range, inside, Whole};
-ghost use Rattle.policy.specs.Refusals.{refused, numberOf};
 ghost use Rattle.policy.specs.Values.{regionOf, ruleOf, packetOf};
 ghost use Rattle.filter.specs.Lookup.{lookFrom, lookupNumber};
 ghost use Rattle.table.specs.Table.{blank, counted, goingOn, lookupTable, missOf};
-
-// A refusal as the number for C.
-fn refused_number(f: Refusal) -> u32
-    ensures { λ r. ⌜ r ≡ lookupNumber (refused (numberOf f)) ⌝ }
-{
-    REFUSAL_BASE + number_of(f)
-}
 
 // 1 for a field outside its range, 0 for one inside it.
 fn miss(x: u32, low: u32, high: u32) -> u32

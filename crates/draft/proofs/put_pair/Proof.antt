@@ -6,8 +6,8 @@ use Rattle.draft.proofs.Sheets.{pair-put}
 use Rattle.draft.proofs.put_pair.Statement.{statement}
 use Rattle.draft.proofs.put_pair.Tie as tie
 
-copy-requires : tie.Need-copy-requires
-copy-requires c κs = search needs
+put-bytes-requires : tie.Need-put-bytes-requires
+put-bytes-requires c κs = search needs
 
 put-count-requires : tie.Need-put-count-requires
 put-count-requires c κs = search needs
@@ -30,14 +30,14 @@ same-length c = search needs
 returns : tie.Need-returns
 returns c =
     let a = c .before .before .before .before .before .before .before .before .before .before .before .before .before .before .before .before .before .before .before .args in
-    pair-put (a .sheet .now) (a .order .now) (c .before .before .before .before .before .before .before .before .before .before .before .before .before .before .copy .last .1 .0) (c .before .before .before .before .before .before .before .before .before .before .put-count .last .0) (c .before .before .before .before .before .before .put-groups .last .0) (c .before .before .zero .last .0) (a .draft .now) (a .groups) (c .before .before .before .before .before .before .before .before .before .before .before .before .before .before .copy .result) _ _
-    (c .before .before .before .before .before .before .before .before .before .before .before .before .before .before .copy .ensures .0) refl (c .before .before .before .before .before .before .before .before .before .before .before .before .before .before .copy .ensures .1) (c .before .before .before .before .before .before .before .before .before .before .put-count .ensures) (c .before .before .before .before .before .before .put-groups .ensures) (c .before .before .zero .ensures) (omega arith) (omega arith)
+    pair-put (a .sheet .now) (a .order .now) (c .before .before .before .before .before .before .before .before .before .before .before .before .before .before .put-bytes .last .0) (c .before .before .before .before .before .before .before .before .before .before .put-count .last .0) (c .before .before .before .before .before .before .put-groups .last .0) (c .before .before .zero .last .0) (a .draft .now) (a .groups) (c .before .before .before .before .before .before .before .before .before .before .before .before .before .before .put-bytes .result) _ _
+    (c .before .before .before .before .before .before .before .before .before .before .before .before .before .before .put-bytes .ensures .0) refl (c .before .before .before .before .before .before .before .before .before .before .before .before .before .before .put-bytes .ensures .1) (c .before .before .before .before .before .before .before .before .before .before .put-count .ensures) (c .before .before .before .before .before .before .put-groups .ensures) (c .before .before .zero .ensures) (omega arith) (omega arith)
 
 pub put-pair-spec : {M : Type 1} → statement M
 put-pair-spec =
     tie.close
     (tie.spec
-    copy-requires
+    put-bytes-requires
     put-count-requires
     add-start
     put-groups-requires

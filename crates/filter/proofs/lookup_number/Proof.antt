@@ -1,6 +1,7 @@
 -- `lookup_number` meets its contract: the verdict is turned into its number. Assumes nothing.
 use borrow.Author.Needs.{needs}
 use native.Mathlib.Omega.{arith}
+use mathlib.Core.Path.{_∙_}
 use Prim.Native.Nat.{_<_, _≤_}
 use Rattle.policy.specs.Fields.{limits}
 use Rattle.policy.specs.Values.{packetOf}
@@ -34,11 +35,8 @@ add-result c = let s = small c in omega arith
 enum-known-f : tie.Need-enum-known-f
 enum-known-f c = search needs
 
-number-of-requires : tie.Need-number-of-requires
-number-of-requires c κs = search needs
-
-add-result-2 : tie.Need-add-result-2
-add-result-2 c = search needs
+refused-number-requires : tie.Need-refused-number-requires
+refused-number-requires c κs = search needs
 
 returns : tie.Need-returns
 returns c =
@@ -50,7 +48,7 @@ returns-2 : tie.Need-returns-2
 returns-2 c =
     let k = c .before .before .before .before .lookup in
     let a = c .before .before .before .before .before .before .args in
-    refused-number (limits .total) (packetOf (a .p)) (a .list .now) (k .result) (k .ensures) _ _ (c .before .before .f .given .1) (c .number-of .ensures .0)
+    c .refused-number .ensures ∙ refused-number (limits .total) (packetOf (a .p)) (a .list .now) (k .result) (k .ensures) _ (c .before .before .f .given .1)
 
 pub lookup-number-spec : {M : Type 1} → statement M
 lookup-number-spec =
@@ -62,7 +60,6 @@ lookup-number-spec =
     mul-result
     add-result
     enum-known-f
-    number-of-requires
-    add-result-2
+    refused-number-requires
     returns
     returns-2)

@@ -1,5 +1,6 @@
 -- `answer_number` meets its contract, case by case. Assumes nothing.
 use borrow.Author.Needs.{needs}
+use mathlib.Core.Path.{_∙_}
 use native.Mathlib.Omega.{arith}
 use Rattle.foldplover.proofs.Codes.{length-small, refused-number}
 use Rattle.foldplover.proofs.answer_number.Statement.{statement}
@@ -14,17 +15,14 @@ cast-result c = let h = length-small (c .before .before .before .args .a) (c .be
 enum-known-a-2 : tie.Need-enum-known-a-2
 enum-known-a-2 c = search needs
 
-number-of-requires : tie.Need-number-of-requires
-number-of-requires c κs = search needs
-
-add-result : tie.Need-add-result
-add-result c = search needs
+refused-number-requires : tie.Need-refused-number-requires
+refused-number-requires c κs = search needs
 
 returns : tie.Need-returns
 returns c = search needs
 
 returns-2 : tie.Need-returns-2
-returns-2 c = refused-number (c .before .before .before .before .args .a) _ _ (c .before .before .a2 .given .1) (c .number-of .ensures .0)
+returns-2 c = c .refused-number .ensures ∙ refused-number (c .before .before .before .before .args .a) _ (c .before .before .a2 .given .1)
 
 pub answer-number-spec : {M : Type 1} → statement M
 answer-number-spec =
@@ -33,7 +31,6 @@ answer-number-spec =
     enum-known-a
     cast-result
     enum-known-a-2
-    number-of-requires
-    add-result
+    refused-number-requires
     returns
     returns-2)

@@ -34,29 +34,17 @@ add-start c = search needs
 add-first : tie.Need-add-first
 add-first c = search needs
 
-sub-copy : tie.Need-sub-copy
-sub-copy c = search needs
+sub-put-bytes : tie.Need-sub-put-bytes
+sub-put-bytes c = search needs
 
-part-copy-start : tie.Need-part-copy-start
-part-copy-start c = search needs
+part-put-bytes-start : tie.Need-part-put-bytes-start
+part-put-bytes-start c = search needs
 
-part-copy-end : tie.Need-part-copy-end
-part-copy-end c = search needs
+part-put-bytes-end : tie.Need-part-put-bytes-end
+part-put-bytes-end c = search needs
 
-sub-copy-2 : tie.Need-sub-copy-2
-sub-copy-2 c = search needs
-
-part-copy-start-2 : tie.Need-part-copy-start-2
-part-copy-start-2 c = search needs
-
-part-copy-end-2 : tie.Need-part-copy-end-2
-part-copy-end-2 c = search needs
-
-copy-requires : tie.Need-copy-requires
-copy-requires c κs = search needs
-
-add-end : tie.Need-add-end
-add-end c = search needs
+put-bytes-requires : tie.Need-put-bytes-requires
+put-bytes-requires c κs = search needs
 
 zero-requires : tie.Need-zero-requires
 zero-requires c κs = search needs
@@ -67,8 +55,8 @@ same-length c = search needs
 returns : tie.Need-returns
 returns c =
     let a = c .before .before .before .before .before .before .before .before .before .before .before .before .before .before .before .before .before .before .before .before .args in
-    cell-put (c .before .before .before .before .before .before .before .before .before .before .before .before .before .before .before .before .before .before .before .before .pre .0) (bytes-all (a .sheet .now) (λ i. omega (arith, c .before .before .before .before .before .before .before .before .before .before .before .before .before .before .before .before .before .before .shared-slice-known .given i))) (a .list .now) _ _ _ _ _ _ _ _ (c .before .before .before .before .before .before .before .before .before .before .before .before .before .count-denies .ensures) refl (omega (arith, c .before .before .before .before .before .before .copy .ensures .0)) (omega arith) (omega arith)
-    (c .before .before .before .before .before .before .before .before .before .before .before .before .before .before .before .before .put-count .ensures) (c .before .before .before .before .before .before .before .before .before .before .before .deny-groups .ensures) (c .before .before .before .before .before .before .copy .ensures .1) (c .before .before .zero .ensures)
+    cell-put (c .before .before .before .before .before .before .before .before .before .before .before .before .before .before .before .before .before .before .before .before .pre .0) (bytes-all (a .sheet .now) (λ i. omega (arith, c .before .before .before .before .before .before .before .before .before .before .before .before .before .before .before .before .before .before .shared-slice-known .given i))) (a .list .now) _ _ _ _ _ _ _ _ (c .before .before .before .before .before .before .before .before .before .before .before .before .before .count-denies .ensures) refl (omega (arith, c .before .before .before .before .before .before .put-bytes .ensures .0)) (omega arith) (omega arith)
+    (c .before .before .before .before .before .before .before .before .before .before .before .before .before .before .before .before .put-count .ensures) (c .before .before .before .before .before .before .before .before .before .before .before .deny-groups .ensures) (c .before .before .before .before .before .before .put-bytes .ensures .1) (c .before .before .zero .ensures)
 
 pub put-cell-list-spec : {M : Type 1} → statement M
 put-cell-list-spec =
@@ -82,14 +70,10 @@ put-cell-list-spec =
     mul-start
     add-start
     add-first
-    sub-copy
-    part-copy-start
-    part-copy-end
-    sub-copy-2
-    part-copy-start-2
-    part-copy-end-2
-    copy-requires
-    add-end
+    sub-put-bytes
+    part-put-bytes-start
+    part-put-bytes-end
+    put-bytes-requires
     zero-requires
     same-length
     returns)

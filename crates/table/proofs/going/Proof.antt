@@ -2,6 +2,7 @@
 use borrow.Author.Needs.{needs}
 use mathlib.Core.Path.{refl}
 use borrow.Author.Tests.{lt-ltb, le-ltb}
+use Rattle.filter.specs.Lookup.{lookupNumber}
 use Rattle.table.specs.Table.{goingOn}
 use Rattle.table.proofs.going.Statement.{statement}
 use Rattle.table.proofs.going.Tie as tie
@@ -10,7 +11,7 @@ refused-number-requires : tie.Need-refused-number-requires
 refused-number-requires c κs = search needs
 
 returns : tie.Need-returns
-unfolding goingOn
+unfolding goingOn lookupNumber
 returns c = rw (lt-ltb _ _ (c .before .if1 .taken), c .refused-number .ensures) refl
 
 returns-2 : tie.Need-returns-2
