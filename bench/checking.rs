@@ -1,4 +1,4 @@
-// Check: is a byte string a pair sheet whose section C is what A gives?
+// Check: do the groups of a pair sheet follow from its gate rules?
 use crate::inputs;
 use crate::measure::{head, medians, row, timed};
 use crate::sheets::{boxes, order_of};

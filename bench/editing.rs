@@ -53,8 +53,8 @@ fn step(input: &Input, what: &str, list: u32, place: usize, change: Change) -> S
     Step { name: format!("{name} {what}"), list, place, change, record: put.map_or(vec![], |r| record_of(&r)), before, after }
 }
 
-// The deny in the middle of the denies; the last one, whose own group is the dearest; the first own rule; and the first allow,
-// behind which every group is worked out anew.
+// The deny in the middle of the denies; the last one, but for a last rule, which has to stay full; the first own rule; and the
+// first allow, behind which every group is worked out anew.
 fn steps(input: &Input) -> Vec<Step> {
     let changes = [Change::Insert, Change::Delete, Change::Replace];
     let gate = &input.gate;

@@ -3,8 +3,8 @@
  *
  * How to call it
  *
- * Every buffer is a pointer and a length. Buffers lent to one call must not overlap. A length of 0
- * still takes a valid pointer. A buffer may be longer than needed; what lies behind the end named
+ * A buffer is handed over as where it begins and how long it is. No two buffers of one call may
+ * overlap, and also an empty one needs a pointer that is valid. A buffer may be longer than needed; what lies behind the end named
  * at the call is never changed. Nothing is remembered from one call to the next.
  *
  * Every call answers one number: a value below FOLDPLOVER_REFUSED, or FOLDPLOVER_REFUSED plus one
@@ -105,8 +105,8 @@ uint32_t foldplover_insert(uint8_t *sheet, size_t sheet_len, size_t used,
 /*
  * Takes out the rule at a place of A or B.
  *
- * Answers and leaves what foldplover_insert does. Groups before the place stay; those after it
- * stay if a deny is taken out, and are worked out anew if an allow is.
+ * Answers and leaves what foldplover_insert does. In A groups before the place stay; those after
+ * it stay if a deny is taken out, and are worked out anew if an allow is. In B all groups stay.
  * Refuses in this order: 1; reading 3, 2, 4, 5, 8, 7; then 9; 2 (the only rule); 5; 6; 7.
  */
 uint32_t foldplover_delete(uint8_t *sheet, size_t sheet_len, size_t used,
@@ -116,9 +116,9 @@ uint32_t foldplover_delete(uint8_t *sheet, size_t sheet_len, size_t used,
 /*
  * Puts a record in for the rule at a place of A or B.
  *
- * Answers and leaves what foldplover_insert does. Groups before the place stay; those after it
- * stay if neither the old rule nor the new one is an allow; the group of a deny put in is always
- * worked out anew.
+ * Answers and leaves what foldplover_insert does. In A groups before the place stay; those after
+ * it stay if neither the old rule nor the new one is an allow; the group of a deny put in is
+ * always worked out anew. In B all groups stay.
  * Refuses in this order: 1; reading 3, 2, 4, 5, 8, 7; then 9; 3; 4; 5; 6; 7.
  */
 uint32_t foldplover_replace(uint8_t *sheet, size_t sheet_len, size_t used,

@@ -1,6 +1,6 @@
 #!/bin/sh
 # Builds the static library and tests it from outside: the C surface as C11 and as C++, then the driver of the second program,
-# which holds every call against the model, with the desk example between them. Prints a line for each, and fails with the first that fails.
+# which holds every call against the model, with the desk example between them. Fails with the first that fails.
 set -eu
 cd "$(dirname "$0")/.."
 library=target/staticlib/libfoldplover.a

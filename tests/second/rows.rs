@@ -1,4 +1,4 @@
-//! The rows of 01, "Run by a program", with the answers written there.
+//! Rows of the boundary table that are not theorems, with the answers that it gives.
 
 use crate::boxes::{Action, PacketBox, Range, Rule};
 use crate::sheets;

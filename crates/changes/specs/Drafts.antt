@@ -1,10 +1,9 @@
 -- Which groups an edit keeps (01, Calls). Assumes nothing.
 use mathlib.Core.List.{List}
 use mathlib.Core.Bool.{Bool, true, false, cond, _||_}
-use Prim.Native.Nat.{ℕ, _+_, _-_, _≤_}
+use Prim.Native.Nat.{ℕ, _+_, _≤_}
 use lib.ListN.{length, take, drop}
 use Rattle.policy.specs.Rules.{Rule, denies, anyAllow}
-use Rattle.policy.specs.Refusals.{unless}
 use Rattle.planner.specs.declared.Change.{Change}
 use Rattle.changes.specs.Orders.{takenBy, putBy}
 use Rattle.draft.specs.declared.Around.{Around}

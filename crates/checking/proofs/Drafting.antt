@@ -3,13 +3,12 @@
 use mathlib.Core.Path.{_≡_}
 use mathlib.Core.List.{List, []}
 use mathlib.Core.Bool.{true, false}
-use Prim.Native.Nat.{ℕ, _+_, _-_, _≤_}
+use Prim.Native.Nat.{ℕ, _+_, _≤_}
 use native.Mathlib.Omega.{arith}
 use lib.ListN.{length, take, drop, length-drop}
 use borrow.Author.Tests.{le-ltb}
 use Rattle.policy.specs.Fields.{countSize, limits}
 use Rattle.policy.specs.Rules.{allowsIn}
-use Rattle.policy.specs.Refusals.{accepted}
 use Rattle.policy.specs.Move.{slotsOf, startOf, together, anyOver, work, room, Order, moved, moveRefusal}
 use Rattle.policy.specs.declared.Refusal.the-variants.{TooManyPieces}
 use Rattle.policy.proofs.Numbers.{orElse-both}

@@ -14,7 +14,7 @@ pub record SameGroups (s : List ℕ) (from boxes : ℕ) (draft : List ℕ) (draw
   pub yes : r ≡ true → (drawn ≡ boxes) × (take end draft ≡ drop from s)
   pub no : r ≡ false → drawn ≡ boxes → take end draft ≡ drop from s → ⊥
 
--- Check: the parts of a pair sheet whose section C is what A gives, and where they lie; or the refusal.
+-- Check: the parts of a pair sheet that passes it, and where they lie; or the refusal.
 pub record CheckRead (s : List ℕ) (r : PairParts) : Type 0 where
   pub says : pairHeard s r ≡ checkOf limits s
   pub place : PairPlaced s r

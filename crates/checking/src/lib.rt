@@ -79,7 +79,7 @@ fn compare(sheet: &[u8], draft: &mut [u8], work: &mut [u8]) -> PairParts
     }
 }
 
-// The parts of a pair sheet whose section C is what A gives, or the refusal; the work buffer is zero at its front.
+// The parts of a pair sheet that passes check, or the refusal; the work buffer is zero at its front.
 pub fn checked(sheet: &[u8], work: &mut [u8]) -> PairParts
     requires { ⌜ workSize limits ≤ length (now work) ⌝ }
     ensures { λ r. ⌜ CheckRead (now (sheet .entry)) r × (now (work .exit) ≡ zeroed 0 (workSize limits) (now (work .entry))) ⌝ }

@@ -1,4 +1,4 @@
--- A draft of section C's groups, before anything lent is touched (01, Calls: groups that are worked out anew).
+-- A draft of section C's groups, made before the sheet is touched (01, Calls: groups that are worked out anew).
 -- Assumes nothing.
 use mathlib.Core.Path.{_≡_}
 use mathlib.Core.List.{List, [], _∷_, _++_, map}

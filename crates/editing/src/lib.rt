@@ -1,5 +1,5 @@
 // Edit: a pair sheet changed at one place of A or of B. The new lists are written as an order sheet into a local buffer and
-// read there, and section C is drafted from kept groups and groups worked out anew, before anything lent is touched.
+// read there, and section C is drafted from kept groups and groups worked out anew, before the sheet is touched.
 use changes::Site;
 use changes::change_order;
 use changes::places;

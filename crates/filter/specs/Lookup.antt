@@ -19,7 +19,7 @@ pub record Hit : Type 0 where
 abbrev pub hit : ℕ → ℕ → Hit
 hit n a = record { place = n; action = a }
 
--- Rules up to the first that fits: 4 at a bad one, before the packet is compared with it; 5 if none fits.
+-- One rule after another: 4 if it is bad, whatever the packet is; where it fits, it decides; 5 behind the last.
 unfoldable pub lookFrom : ℕ → Packet → List Rule → Outcome Hit
 lookFrom n p [] = refused 5
 lookFrom n p (r ∷ l) =

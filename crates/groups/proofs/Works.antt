@@ -105,7 +105,7 @@ module _ {half : ℕ} {work₀ rules : List ℕ} {i : ℕ} {work : List ℕ} {n 
       number = rw (left-deny rules i j t e h) at (g .number);
     }
 
-    -- An allow has been taken from all pieces.
+    -- The rule is an allow: every piece was cut by it.
     module _ (h : r .action ≡ 1) {work′ : List ℕ} {m : ℕ} (k : Taken half work n (r .region) work′ m) where
       -- More than number 6 allows are left.
       module _ (q : places < m) where

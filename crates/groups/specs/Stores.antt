@@ -1,4 +1,4 @@
--- Pieces on the way to a group, in the two halves of the work buffer (01, Calls: two lists of 1,024 boxes).
+-- Pieces on the way to a group, as they lie in the work buffer (01, Calls: it holds two lists of 1,024 boxes).
 -- Assumes nothing.
 use mathlib.Core.Path.{_≡_}
 use mathlib.Core.List.{List, [], _∷_, _++_}

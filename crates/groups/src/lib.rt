@@ -1,5 +1,5 @@
-// The group of a deny rule, worked out in the two halves of the work buffer. The first half holds the pieces. What an allow
-// leaves of them is stored in the second half, and then copied down.
+// The group of a deny rule. The first half of the work buffer holds the pieces; what an allow leaves of them is stored in the
+// second half, and then copied down.
 use policy::BOX_BYTES;
 use policy::Box;
 use policy::FIELDS;
@@ -8,7 +8,7 @@ use policy::RECORD_BYTES;
 ghost use mathlib.Core.Path.{_≡_};
 ghost use mathlib.Core.List.{_∷_, []};
 ghost use mathlib.Core.Bool.{true};
-ghost use Prim.Native.Nat.{_+_, _-_, _*_, _≤_, _<_, min, max};
+ghost use Prim.Native.Nat.{_+_, _*_, _≤_, _<_, min, max};
 ghost use lib.ListN.{length, take, drop, set};
 ghost use lib.Seq.{sets};
 ghost use Rattle.lists.specs.Lists.{every};

@@ -1,4 +1,4 @@
-// Prints the plan of each order sheet in its folder: the examples, sheets at the limits, and one for every refusal of a move.
+// Prints the plan of each order sheet in its folder: the examples, sheets at the limits, and one for every refusal that plan can give.
 use sheet::ORDER_BYTES;
 
 fn case(name: &[u8]) {

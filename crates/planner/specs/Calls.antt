@@ -21,7 +21,7 @@ use Rattle.wire.specs.Lists.{listSize, listBytes}
 unfoldable pub roomFor : ℕ → List ℕ → Bool
 roomFor n out = leb n (length out)
 
--- The work buffer is zero at its front after every answer but 1, which touches nothing.
+-- What is left of the work buffer: 1 leaves it alone, any other answer leaves its front zero.
 unfoldable pub workAfter : Limits → Bool → List ℕ → List ℕ
 workAfter lim lent work = cond lent (zeroed 0 (workSize lim) work) work
 

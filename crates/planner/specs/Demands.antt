@@ -1,5 +1,5 @@
 -- Demands 2 and 3 at the level of bytes, over the functions that the calls' statements name. The theorems that they hold stand
--- in proofs/Demands.antt. Assumes nothing.
+-- in proofs/Demands.antt, those of the calls themselves (`MoveMeets`, `RunAsFresh`) in proofs/Runs.antt. Assumes nothing.
 use mathlib.Core.Path.{_≡_}
 use mathlib.Core.List.{List, [], _∷_}
 use mathlib.Core.Bool.{true}

@@ -41,7 +41,7 @@ wholeRecord Insert s = eqb (length s) recordSize
 wholeRecord Delete s = true
 wholeRecord Replace s = eqb (length s) recordSize
 
--- On a pair that was read: 9 (also for a list that is neither A nor B), 3 for the record's length, then 2, 4, 5, 6, 7.
+-- On a pair that was read: 9 (also where the list is not 0 or 1), 3 for the record's length, then 2, 4, 5, 6, 7.
 unfoldable pub changeOf : Limits → Asked → Pair → Outcome Pair
 changeOf lim a p =
     test (leb (a .list) 1 && placeFound (editOf a) (p .order)) 9

@@ -122,7 +122,7 @@ groups-three f x m y =
     ∙ map-append boxesOf (slots f [] x) (slots f (allowsIn x) m ++ slots f (allowsIn x ++ allowsIn m) y)
     ∙ ap (λ (l : List (List Region)). boxes f [] x ++ l) (map-append boxesOf (slots f (allowsIn x) m) (slots f (allowsIn x ++ allowsIn m) y))
 
--- the groups of deny rules before the place, and those after it
+-- the groups in front of the place, and those behind it
 groups-before : (f : Region → List Region) (x m y : List Rule) → take (denies x) (groupsOf f (x ++ (m ++ y))) ≡ boxes f [] x
 groups-before f x m y =
     rw (groups-three f x m y) (take-at (boxes f [] x) (boxes f (allowsIn x) m ++ boxes f (allowsIn x ++ allowsIn m) y) (denies x) (boxes-length f [] x))

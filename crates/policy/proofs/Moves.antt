@@ -12,23 +12,7 @@ use Rattle.lists.proofs.Tests.{and-true, and-both, or-assoc}
 use Rattle.lists.proofs.Lists.{each-append}
 use Rattle.policy.specs.Fields.{highest}
 use Rattle.policy.specs.Ranges.{range, Region, Packet, within, inside, Whole, everyField, properRange, proper, fullRange, isFull, fullOver}
-use Rattle.policy.specs.Rules.{
-  full,
-  Rule,
-  rule,
-  isAllow,
-  sound,
-  Found,
-  found,
-  nothing,
-  firstFrom,
-  saysAllow,
-  saysDrop,
-  allows,
-  drops,
-  forwards,
-  complete,
-}
+use Rattle.policy.specs.Rules.{Rule, isAllow, sound, Found, found, nothing, firstFrom, saysAllow, saysDrop, allows, drops, inLimits, forwards, complete}
 use Rattle.policy.specs.Cut.{group, anyHas}
 use Rattle.policy.specs.Refusals.{given, faults}
 use Rattle.policy.specs.Move.{
@@ -94,8 +78,8 @@ full-eq (x ∷ hs) (r ∷ b) h =
     let i = full-eq hs b (f .1) in
     λ t. record { low = e t; high = j t } ∷ i t
 
--- A packet with a value above its field's highest meets no rule.
-pub above-meets-none : (p : Packet) (l : List Rule) (n : ℕ) → faults l ≡ 0 → inside p full ≡ false → firstFrom n p l ≡ nothing
+-- No sound rule has a packet that is outside the limits.
+pub above-meets-none : (p : Packet) (l : List Rule) (n : ℕ) → faults l ≡ 0 → inLimits p ≡ false → firstFrom n p l ≡ nothing
 unfolding faults firstFrom
 above-meets-none p [] n h k = refl
 above-meets-none p (r ∷ l) n h k =
@@ -113,12 +97,12 @@ not-not true = refl
 not-not false = refl
 
 pub complete-allows : (p : Packet) (l : List Rule) (n : ℕ) → faults l ≡ 0 → complete l ≡ true
-    → saysAllow (firstFrom n p l) ≡ (inside p full && not (saysDrop (firstFrom n p l)))
+    → saysAllow (firstFrom n p l) ≡ (inLimits p && not (saysDrop (firstFrom n p l)))
 unfolding faults firstFrom complete
 complete-allows p [] n h k = absurd (false≢true k)
 complete-allows p (r ∷ []) n h k =
     let e = ap (inside p) (full-eq highest (r .region) k) in
-    rw e (go (inside p full))
+    rw e (go (inLimits p))
   where
     go : (t : Bool) → saysAllow (cond t (found n (r .action)) nothing) ≡ (t && not (saysDrop (cond t (found n (r .action)) nothing)))
     go true = not-not (eqb (r .action) 1)
@@ -127,8 +111,8 @@ complete-allows p (r ∷ (s ∷ l)) n h k =
     let f = faults-cons r (s ∷ l) h in
     go (inside p (r .region)) refl (firstFrom (suc n) p (s ∷ l)) (complete-allows p (s ∷ l) (suc n) (f .1) k) (rule-proper r (f .0))
   where
-    go : (t : Bool) → inside p (r .region) ≡ t → (x : Found) → saysAllow x ≡ (inside p full && not (saysDrop x)) → proper highest (r .region) ≡ true
-        → saysAllow (cond t (found n (r .action)) x) ≡ (inside p full && not (saysDrop (cond t (found n (r .action)) x)))
+    go : (t : Bool) → inside p (r .region) ≡ t → (x : Found) → saysAllow x ≡ (inLimits p && not (saysDrop x)) → proper highest (r .region) ≡ true
+        → saysAllow (cond t (found n (r .action)) x) ≡ (inLimits p && not (saysDrop (cond t (found n (r .action)) x)))
     go true e x ih q = rw (proper-inside highest p (r .region) q e) (not-not (eqb (r .action) 1))
     go false e x ih q = ih
 
@@ -251,7 +235,7 @@ pub moved-pair-forwards : (o : Order) (p : Packet) → faults (o .gate) ≡ 0 �
 unfolding firstFrom
 moved-pair-forwards o p h k =
     rw (denials-allow p (together (moved o .groups)) (o .own) 0, boxes-cover-what-the-gate-dropped o p h)
-    (go (inside p full) (drops p (o .gate)) (allows p (o .gate)) (allows p (o .own)) (complete-allows p (o .gate) 0 h k))
+    (go (inLimits p) (drops p (o .gate)) (allows p (o .gate)) (allows p (o .own)) (complete-allows p (o .gate) 0 h k))
   where
     go : (f d a b : Bool) → a ≡ (f && not d) → (saysAllow (cond f (found 0 1) nothing) && (not d && b)) ≡ (a && b)
     go true d a b e = rw e

@@ -67,7 +67,7 @@ abbrev pub inGateAt : ℕ → Kind → Edit
 inGateAt i k = record { inGate = true; place = i; kind = k }
 
 -- An edit of A that adds, drops or swaps a deny rule changes no other rule's group, on stale pairs too: that of a deny rule
--- before the place, and that of the rule d places behind it, which now stands d places behind what was put in.
+-- before the place, and that of each rule behind what was taken out, which now stands behind what was put in (d counts from 0).
 pub record OthersKept (i : ℕ) (k : Kind) (s : Pair) : Type 0 where
   pub earlier :
       (j : ℕ) → j < i → isAllow (getD (s .order .gate) j (rule [] 0)) ≡ false

@@ -78,7 +78,7 @@ gateSlots e s =
     around (startOf (s .order)) (front (e .place) (s .order .gate)) (gone (e .place) (e .kind) (s .order .gate))
     (put (e .kind)) (back (e .place) (e .kind) (s .order .gate)) (s .groups)
 
--- An edit of B keeps all groups.
+-- Where every group comes from; those of an edit of B all from the sheet.
 abbrev pub newSlots : Edit → Pair → List Slot
 newSlots e s = cond (e .inGate) (gateSlots e s) (map kept (s .groups))
 

@@ -47,7 +47,7 @@ actionSize = 1
 abbrev pub recordSize : ℕ
 recordSize = boxSize + actionSize
 
--- 01, Sheets: each section follows its count of two bytes.
+-- 01, Sheets: how many bytes a count takes.
 abbrev pub countSize : ℕ
 countSize = 2
 

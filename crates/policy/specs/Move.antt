@@ -20,7 +20,7 @@ pub record Pair : Type 0 where
   pub order : Order
   pub groups : List (List Region)
 
--- A deny rule's group: kept as it stands, or worked out anew from the pieces that it starts with and the allows to take.
+-- Where a deny rule's group comes from: it is kept, or it is made of the pieces that it starts with and the allows to take.
 pub data Slot : Type 0 where
   kept : List Region → Slot
   anew : List Region → List Region → Slot
@@ -51,8 +51,8 @@ unfoldable pub together : List (List Region) → List Region
 together [] = []
 together (g ∷ gs) = g ++ together gs
 
--- Number 6: after some allow has been taken from all pieces of one deny rule, more than the limit are left; asked of the
--- groups that are worked out anew, and asked also where a later allow would remove those pieces.
+-- Number 6: some allow, taken from every piece of a deny rule, leaves more of them than the limit. Only groups that are made
+-- anew are asked, and what later allows would take away does not count.
 unfoldable pub over : ℕ → List Region → List Region → Bool
 over most ds [] = false
 over most ds (a ∷ allows) = ltb most (length (cutEach ds a)) || over most (cutEach ds a) allows
@@ -81,7 +81,7 @@ unfoldable pub denials : List Region → List Rule
 denials [] = []
 denials (b ∷ bs) = rule b 0 ∷ denials bs
 
--- The gate list of a pair is one full allow rule; its cell list is every group's boxes as deny rules, then the own rules.
+-- The lists to load: for the gate one full allow rule, for the cell a deny rule for each box, group by group, and the own rules.
 abbrev pub gateList : Pair → List Rule
 gateList s = rule full 1 ∷ []
 

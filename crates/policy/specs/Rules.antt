@@ -8,7 +8,7 @@ use lib.Dec.{leb, eqb}
 use Rattle.policy.specs.Fields.{highest}
 use Rattle.policy.specs.Ranges.{Region, Packet, inside, proper, fullOver, isFull}
 
--- A rule is a box and an action: 0 denies, 1 allows. Whether it is one that number 4 lets pass is asked by `sound`.
+-- A rule: its box, and 0 to deny or 1 to allow. Whether it is one that number 4 lets pass is asked by `sound`.
 pub record Rule : Type 0 where
   pub region : Region
   pub action : ℕ
@@ -31,7 +31,7 @@ Proper b = proper highest b ≡ true
 unfoldable pub sound : Rule → Bool
 sound r = proper highest (r .region) && leb (r .action) 1
 
--- The rule that decides is the first in list order whose box has the packet: its place, from 0, and its action.
+-- First match: the place, from 0, and the action of the earliest rule that has the packet.
 pub data Found : Type 0 where
   found : ℕ → ℕ → Found
   nothing : Found
@@ -43,13 +43,13 @@ firstFrom n p (r ∷ l) = cond (inside p (r .region)) (found n (r .action)) (fir
 abbrev pub first : Packet → List Rule → Found
 first p l = firstFrom 0 p l
 
--- A list is complete if its last rule is full in every field.
+-- Completeness: the last rule has no field that is not full.
 unfoldable pub complete : List Rule → Bool
 complete [] = false
 complete (r ∷ []) = isFull highest (r .region)
 complete (r ∷ (s ∷ l)) = complete (s ∷ l)
 
--- A list allows or drops a packet by the action of the rule that decides; where none does, it does neither.
+-- What a list does with a packet: the action that first match finds; without one it neither allows nor drops.
 abbrev pub saysAllow : Found → Bool
 saysAllow (found n a) = eqb a 1
 saysAllow nothing = false
@@ -68,7 +68,7 @@ drops p l = saysDrop (first p l)
 abbrev pub inLimits : Packet → Bool
 inLimits p = inside p full
 
--- A pair forwards a packet if both of its lists allow it.
+-- What a pair forwards passes at the gate and at the cell.
 abbrev pub forwards : Packet → List Rule → List Rule → Bool
 forwards p gate cell = allows p gate && allows p cell
 

@@ -1,5 +1,5 @@
-// Boxes, rules and packets by value, the refusals, and the answers of the calls. Everything that depends on the number of
-// fields or on a width stands in the fields' table below.
+// Boxes, rules and packets by value, the refusals, and the answers of the calls. The number of fields, their highest values and
+// their widths stand in the fields' table below; only the calls for C name the fields one by one.
 ghost use mathlib.Core.Path.{_≡_};
 ghost use Prim.Native.Nat.{_+_, _-_, _≤_, _<_};
 ghost use lib.ListN.{length, getD, set};
@@ -64,7 +64,7 @@ pub enum Refusal {
     NoPlace,
 }
 
-// The new length of what a call wrote, or the refusal.
+// The length that a call answers, or the refusal.
 pub enum Answer {
     Length(usize),
     Refused(Refusal),

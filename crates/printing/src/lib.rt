@@ -1,4 +1,4 @@
-// What the program `plan` prints for an order sheet: the two list lengths, then the cell list, a line for each rule; or the
+// The output of the program `plan` for an order sheet: how long both new lists are and the cell's rules, one to a line; or the
 // refusal's number.
 use groups::WORK_BYTES;
 use libc::STDOUT_FILENO;

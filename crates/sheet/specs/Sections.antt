@@ -23,8 +23,8 @@ reading v t = record { value = v; rest = t }
 abbrev pub sectionRules : List ℕ → List Rule
 sectionRules s = rulesIn (countIn s) (drop countSize s)
 
--- The first fault decides: the count is there (3), within its limits (2), all records of the section are there (3), each of
--- them is a rule (4), and the last is full (5).
+-- The first fault decides: no count (3), a count outside its limits (2), too few bytes for so many records (3), a record that
+-- is no rule (4), a last one that is not full (5).
 unfoldable pub section : ℕ → List ℕ → Outcome (Reading (List Rule))
 section most s =
     test (leb countSize (length s)) 3

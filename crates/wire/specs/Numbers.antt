@@ -17,7 +17,7 @@ numberFrom x (b ∷ bs) = numberFrom (x * 256 + b) bs
 abbrev pub numberIn : List ℕ → ℕ
 numberIn bs = numberFrom 0 bs
 
--- What a list of numbers must be to be bytes.
+-- What each number of a list must be for them to be bytes.
 abbrev pub Byte : ℕ → Type 0
 Byte b = b < 256
 

@@ -1,5 +1,5 @@
--- A box and a record in bytes, over the fields' table (01, Sheets): the low and the high of each field in the field's width,
--- and for a record the action's byte behind them. Assumes nothing.
+-- Boxes and records as bytes (01, Sheets): field by field of the table, the low and the high in the field's width, and for a
+-- record the action's byte behind them. Assumes nothing.
 use mathlib.Core.List.{List, [], _∷_, _++_}
 use Prim.Native.Nat.{ℕ, zero, suc, _+_, _^_, _<_}
 use lib.ListN.{take, drop}
