@@ -28,6 +28,7 @@ struct Step {
     record: Vec<u8>,
     before: [Vec<Rule>; 2],
     after: [Vec<Rule>; 2],
+    refused: bool,
 }
 
 // What a rule is replaced by: one source less or more.
@@ -50,7 +51,8 @@ fn step(input: &Input, what: &str, list: u32, place: usize, change: Change) -> S
         Change::Delete => ("delete", None, full, without),
         Change::Replace => ("replace", Some(*new), full, other),
     };
-    Step { name: format!("{name} {what}"), list, place, change, record: put.map_or(vec![], |r| record_of(&r)), before, after }
+    let record = put.map_or(vec![], |r| record_of(&r));
+    Step { name: format!("{name} {what}"), list, place, change, record, before, after, refused: false }
 }
 
 // The deny in the middle of the denies; the last one, but for a last rule, which has to stay full; the first own rule; and the
@@ -64,6 +66,15 @@ fn steps(input: &Input) -> Vec<Step> {
     let kinds =
         [("a middle deny", 0, middle), ("the last deny", 0, last), ("an own rule", 1, 0), ("the first allow", 0, allow)];
     kinds.iter().flat_map(|(what, list, place)| changes.map(|change| step(input, what, *list, *place, change))).collect()
+}
+
+// An edit that is refused because the own rules have no such place (9): it reads the sheet and clears the work buffer, which no
+// edit can leave out.
+fn refused(input: &Input) -> Step {
+    let lists = [input.gate.clone(), input.own.clone()];
+    let place = input.own.len();
+    let name = "refused, no such place".to_string();
+    Step { name, list: 1, place, change: Change::Delete, record: vec![], before: lists.clone(), after: lists, refused: true }
 }
 
 fn turn(desk: &mut Desk, way: Way, used: usize, edit: &Edit, order: &[u8]) -> u32 {
@@ -83,9 +94,10 @@ fn measure(step: &Step) {
         desk.sheet.copy_from_slice(&before);
         (turn(&mut desk, way, used, &edit, &order), desk.sheet.clone())
     });
-    let (answer, sheet) = &ends[0];
+    let (answer, sheet) = &ends[WAYS.len() - 1];
+    let edited = if step.refused { REFUSED + 9 } else { *answer };
     assert!(
-        *answer < REFUSED && ends.iter().all(|e| *e == ends[0]),
+        *answer < REFUSED && ends[..WAYS.len() - 1].iter().all(|e| e.0 == edited && e.1 == *sheet),
         "{}: {:?}",
         step.name,
         ends.iter().map(|e| e.0).collect::<Vec<_>>()
@@ -104,6 +116,6 @@ pub fn run() {
     for input in inputs::edited() {
         println!();
         head(&format!("edit: {}", input.name), &["rules", "own", "boxes", "bytes"], &WAYS);
-        steps(&input).iter().for_each(measure);
+        steps(&input).iter().chain([&refused(&input)]).for_each(measure);
     }
 }

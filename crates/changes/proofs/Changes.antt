@@ -1,36 +1,33 @@
--- What each arm of making the new order sheet gives. Assumes nothing.
-use mathlib.Core.Path.{_≡_, refl, ap, sym, _∙_}
+-- What each arm of changing a list gives, and that the bytes are those of the changed list. Assumes nothing.
+use mathlib.Core.Path.{_≡_, refl, sym, _∙_}
 use mathlib.Core.List.{List, [], _++_}
-use mathlib.Core.Bool.{Bool, true, false, cond}
+use mathlib.Core.Bool.{Bool, true, false}
 use Prim.Native.Nat.{ℕ, _+_, _*_, _-_, _≤_, _<_}
 use native.Mathlib.Omega.{arith}
-use lib.Dec.{eqb}
+use lib.Dec.{leb}
 use lib.ListN.{length, take, drop, length-append, length-take, length-drop}
-use lib.Seq.{sets}
-use borrow.Author.Tests.{le-leb, lt-leb, eqb-true}
+use lib.Seq.{sets, sets-eq, take-at, length-take-le}
+use borrow.Author.Tests.{le-leb, lt-leb, leb-true, eqb-true}
 use Rattle.lists.specs.Lists.{Each}
 use Rattle.lists.proofs.Lists.{append-none}
-use Rattle.policy.specs.Fields.{countSize, recordSize, limits}
+use Rattle.policy.specs.Fields.{countSize, recordSize}
 use Rattle.policy.specs.Rules.{Rule}
-use Rattle.policy.specs.Move.{Order}
-use Rattle.policy.specs.Edit.{Kind, out, put, changed, target, newOrder, placeFound}
+use Rattle.policy.specs.Refusals.{Outcome, accepted, refused, test, numberOf}
+use Rattle.policy.specs.Edit.{Kind, out, put, changed}
 use Rattle.policy.specs.declared.Answer.the-variants.{Length, Refused}
+use Rattle.policy.specs.declared.Refusal.{Refusal}
 use Rattle.policy.specs.declared.Refusal.the-variants.{NoPlace, LengthWrong}
 use Rattle.wire.specs.Numbers.{Byte}
 use Rattle.wire.specs.Records.{recordBytes, recordsBytes, ruleIn}
-use Rattle.wire.proofs.Records.{RuleFits, rulesIn-length, record-written-back}
-use Rattle.sheet.specs.Orders.{orderBytes, orderSize}
-use Rattle.sheet.specs.Readers.{rulesOf, listsOf}
-use Rattle.wire.proofs.Lists.{listBytes-length}
-use Rattle.sheet.proofs.Outcomes.{faultless}
-use Rattle.sheet.proofs.Orders.{faultless-fits}
-use Rattle.planner.specs.Edits.{Asked, kindOf, editOf, wholeRecord, asked}
+use Rattle.wire.specs.Buffers.{lengthOf}
+use Rattle.wire.specs.Lists.{listBytes, listSize}
+use Rattle.wire.proofs.Numbers.{numberBytes-length}
+use Rattle.wire.proofs.Records.{RuleFits, record-written-back}
+use Rattle.planner.specs.Edits.{kindOf, wholeRecord}
 use Rattle.planner.specs.declared.Change.{Change}
 use Rattle.planner.specs.declared.Change.the-variants.{Insert, Delete, Replace}
-use Rattle.changes.specs.Orders.{takenBy, putBy, spliced, newOrderOf, overlaid, OrderChanged, ListsHeld}
+use Rattle.changes.specs.Changes.{takenBy, putBy, spliced, newBytes, changedBytes, overlaid, ListChanged}
 use Rattle.changes.proofs.Splices.{section-spliced}
-use Rattle.wire.specs.Lists.{listBytes, listSize}
-use Rattle.wire.specs.Buffers.{lengthOf}
 
 -- what a change takes out and puts in
 pub taken-is : (c : Change) (s : List ℕ) → out (kindOf c s) ≡ takenBy c
@@ -60,95 +57,102 @@ put-long Replace s w = omega (arith, eqb-true (length s) recordSize w)
 pub changed-length : (i : ℕ) (k : Kind) (l : List Rule) → i + out k ≤ length l → length (changed i k l) ≡ length l - out k + length (put k)
 changed-length i k l h = rw (length-append, length-append, length-take, length-drop, length-drop) (omega arith)
 
-module _ (list place : ℕ) (change : Change) (new : List ℕ) (o : Order) (out₀ : List ℕ) where
-  abbrev a : Asked
-  a = asked list place change new
+module _ (s : List ℕ) (start count place : ℕ) (change : Change) (new out₀ : List ℕ) {taken : ℕ} (taking : taken ≡ takenBy change) (some : taken ≤ count) where
+  pub changed-no-place : count - taken < place → ListChanged (changedBytes s start count place change new) out₀ (Refused NoPlace) out₀
+  unfolding changedBytes overlaid lengthOf
+  changed-no-place h =
+      let f = lt-leb (place + takenBy change) count (omega arith) in
+      record { answer = rw f; result = rw f }
 
-  pub changed-no-list : 1 < list → OrderChanged a o out₀ (Refused NoPlace) out₀
-  unfolding newOrderOf overlaid lengthOf
-  changed-no-list h = record { answer = rw (lt-leb list 1 h); result = rw (lt-leb list 1 h) }
+  module _ (found : place ≤ count - taken) where
+    there : leb (place + takenBy change) count ≡ true
+    there = le-leb (place + takenBy change) count (omega arith)
 
-  module _ (l : list ≤ 1) (count : ℕ) (counted : length (target (editOf a) o) ≡ count) (taken : ℕ) (taking : taken ≡ takenBy change) (some : taken ≤ count) where
-    pub changed-no-place : count - taken < place → OrderChanged a o out₀ (Refused NoPlace) out₀
-    unfolding newOrderOf overlaid lengthOf
-    changed-no-place h =
-        let t = taken-is change new in
-        let f : placeFound (editOf a) o ≡ false = lt-leb (place + out (kindOf change new)) (length (target (editOf a) o)) (omega arith) in
-        record { answer = rw (le-leb list 1 l, f); result = rw (le-leb list 1 l, f) }
+    pub changed-short : wholeRecord change new ≡ false → ListChanged (changedBytes s start count place change new) out₀ (Refused LengthWrong) out₀
+    unfolding changedBytes overlaid lengthOf
+    changed-short h = record { answer = rw (there, h); result = rw (there, h) }
 
-    module _ (found : place ≤ count - taken) where
-      there : placeFound (editOf a) o ≡ true
-      there = let t = taken-is change new in le-leb (place + out (kindOf change new)) (length (target (editOf a) o)) (omega arith)
+    pub changed-done : wholeRecord change new ≡ true → {put r : ℕ} {out₁ : List ℕ} → put ≡ putBy change
+        → r ≡ length (spliced s start (count - taken + put) place taken (take (recordSize * put) new))
+        → out₁ ≡ sets out₀ 0 (spliced s start (count - taken + put) place taken (take (recordSize * put) new))
+        → ListChanged (changedBytes s start count place change new) out₀ (Length r) out₁
+    unfolding changedBytes overlaid lengthOf
+    changed-done h ep er eo = record { answer = rw (there, h, er, ep, taking); result = rw (there, h, eo, ep, taking) }
 
-      pub changed-short : wholeRecord change new ≡ false → OrderChanged a o out₀ (Refused LengthWrong) out₀
-      unfolding newOrderOf overlaid lengthOf
-      changed-short h = record { answer = rw (le-leb list 1 l, there, h); result = rw (le-leb list 1 l, there, h) }
+-- A refused change leaves the buffer alone, and whatever stands behind the two tests is refused with its number.
+pub change-refused : {A : Type 0} (x : Outcome A) (s : List ℕ) (start count place : ℕ) (change : Change) (new : List ℕ) {out out′ : List ℕ} (f : Refusal)
+    → ListChanged (changedBytes s start count place change new) out (Refused f) out′
+    → (test (leb (place + takenBy change) count) 9 (test (wholeRecord change new) 3 x) ≡ refused (numberOf f)) × (out′ ≡ out)
+unfolding changedBytes lengthOf overlaid
+change-refused x s start count place change new {out} {out′} f c =
+    go (leb (place + takenBy change) count) (wholeRecord change new) (newBytes s start count place change new) (c .answer) (c .result)
+  where
+    go : (b w : Bool) (y : List ℕ) → refused (numberOf f) ≡ lengthOf (λ (t : List ℕ). t) (test b 9 (test w 3 (accepted y))) → out′ ≡ overlaid out (test b 9 (test w 3 (accepted y)))
+        → (test b 9 (test w 3 x) ≡ refused (numberOf f)) × (out′ ≡ out)
+    go true true y e r = let z : _≡_ {A = ℕ} 0 1 = cc in absurd (omega arith)
+    go true false y e r = (let z : numberOf f ≡ 3 = cc in rw z, r)
+    go false w y e r = (let z : numberOf f ≡ 9 = cc in rw z, r)
 
-      pub changed-done : wholeRecord change new ≡ true → (bytes : List ℕ) → bytes ≡ orderBytes (newOrder (editOf a) o)
-          → (r : ℕ) (out₁ : List ℕ) → r ≡ length bytes → out₁ ≡ sets out₀ 0 bytes → OrderChanged a o out₀ (Length r) out₁
-      unfolding newOrderOf overlaid lengthOf
-      changed-done h bytes e r out₁ er eo = record {
-        answer = rw (le-leb list 1 l, there, h, er, e);
-        result = rw (le-leb list 1 l, there, h, eo, e);
-      }
+-- What an accepted change gives: both tests passed, and the new bytes stand at the front of the buffer.
+pub record ChangeDone (s : List ℕ) (start count place : ℕ) (change : Change) (new out out′ : List ℕ) (end : ℕ) : Type 0 where
+  pub found : place + takenBy change ≤ count
+  pub whole : wholeRecord change new ≡ true
+  pub long : end ≡ length (newBytes s start count place change new)
+  pub inside : end ≤ length out
+  pub short : end ≤ length s + recordSize
+  pub result : out′ ≡ sets out 0 (newBytes s start count place change new)
+  pub bytes : take end out′ ≡ newBytes s start count place change new
 
--- the new order's bytes
-module _ {s : List ℕ} {n m middle third : ℕ} (held : ListsHeld s n m middle third) where
-  abbrev lists : Order
-  lists = listsOf n m middle s
+spliced-length : (s : List ℕ) (start count place out : ℕ) (new : List ℕ) → start + countSize + recordSize * place + recordSize * out ≤ length s
+    → length (spliced s start count place out new) + recordSize * out ≡ length s + length new
+unfolding spliced
+spliced-length s start count place out new h =
+    let a : length (take start s) ≡ start = length-take-le start s (omega arith) in
+    let b = numberBytes-length countSize count in
+    let c : length (take (recordSize * place) (drop (start + countSize) s)) ≡ recordSize * place = length-take-le (recordSize * place) (drop (start + countSize) s) (rw length-drop (omega arith)) in
+    rw (length-append, length-append, length-append, length-append, length-drop, a, b, c) (omega arith)
 
-  pub target-length : (b : Bool) → length (cond b (lists .gate) (lists .own)) ≡ cond b n m
-  target-length true = rulesIn-length n (drop countSize s)
-  target-length false = rulesIn-length m (drop countSize (drop middle s))
+pub change-done : (s : List ℕ) (start count place : ℕ) (change : Change) (new : List ℕ) {out out′ : List ℕ} {end : ℕ}
+    → start + listSize count ≤ length s → length s + recordSize ≤ length out
+    → ListChanged (changedBytes s start count place change new) out (Length end) out′ → ChangeDone s start count place change new out out′ end
+unfolding changedBytes lengthOf overlaid
+change-done s start count place change new {out} {out′} {end} there roomy c =
+    let y : List ℕ = newBytes s start count place change new in
+    let t = go (leb (place + takenBy change) count) (wholeRecord change new) y (c .answer) (c .result) in
+    let f : place + takenBy change ≤ count = leb-true _ _ (t .0) in
+    let p : length (take (recordSize * putBy change) new) ≡ recordSize * putBy change = length-take-le (recordSize * putBy change) new (put-long change new (t .1)) in
+    let l = spliced-length s start (count - takenBy change + putBy change) place (takenBy change) (take (recordSize * putBy change) new) (omega arith) in
+    let fits : length y ≤ length out = omega (arith, put-few change) in
+    let z : 0 + length y ≡ end = omega (arith, t .2) in
+    record {
+      found = f;
+      whole = t .1;
+      long = t .2;
+      inside = omega arith;
+      short = omega (arith, t .2, put-few change);
+      result = t .3;
+      bytes = rw (t .3, sets-eq y out 0 (omega arith), z) (take-at y (drop end out) end (sym (t .2)));
+    }
+  where
+    put-few : (c : Change) → putBy c ≤ 1
+    put-few Insert = omega arith
+    put-few Delete = omega arith
+    put-few Replace = omega arith
 
-  -- a list has a rule, and not more than its limit
-  pub target-some : (b : Bool) → (1 ≤ cond b n m) × (cond b n m ≤ limits .own)
-  target-some true =
-      let f = faultless (limits .gate) (rulesOf n s) (held .gate) in
-      let p = held .place in
-      (rw (← target-length true) (f .few), omega (arith, p .gateLimit))
-  target-some false =
-      let f = faultless (limits .own) (rulesOf m (drop middle s)) (held .own) in
-      let p = held .place in
-      (rw (← target-length false) (f .few), p .ownLimit)
+    go : (b w : Bool) (y : List ℕ) → accepted end ≡ lengthOf (λ (t : List ℕ). t) (test b 9 (test w 3 (accepted y))) → out′ ≡ overlaid out (test b 9 (test w 3 (accepted y)))
+        → (b ≡ true) × (w ≡ true) × (end ≡ length y) × (out′ ≡ sets out 0 y)
+    go true true y e r = (refl, refl, cc, r)
+    go true false y e r = let z : _≡_ {A = ℕ} 0 1 = cc in absurd (omega arith)
+    go false w y e r = let z : _≡_ {A = ℕ} 0 1 = cc in absurd (omega arith)
 
-  gate-fits : Each RuleFits (lists .gate)
-  gate-fits = faultless-fits (limits .gate) (lists .gate) (omega arith) (held .gate) .rules
-
-  own-fits : Each RuleFits (lists .own)
-  own-fits = faultless-fits (limits .own) (lists .own) (omega arith) (held .own) .rules
-
-  gate-long : length (listBytes (lists .gate)) ≡ middle
-  gate-long = listBytes-length (lists .gate) gate-fits ∙ ap (λ (k : ℕ). listSize k) (target-length true) ∙ sym (held .place .gateEnd)
-
-  order-spliced : (b : Bool) (i : ℕ) (k : Kind) (new : List ℕ) (start count : ℕ) → start ≡ cond b 0 middle
-      → i + out k ≤ length (cond b (lists .gate) (lists .own)) → new ≡ recordsBytes (put k) → count ≡ length (changed i k (cond b (lists .gate) (lists .own)))
-      → spliced (take third s) start count i (out k) new ≡ orderBytes (newOrder (record { inGate = b; place = i; kind = k }) lists)
-  unfolding orderBytes
-  order-spliced true i k new start count es h en ec =
-      section-spliced [] (listBytes (lists .own)) new (lists .gate) i k (take third s) start count gate-fits h (sym (held .bytes)) (sym es) en ec
-  order-spliced false i k new start count es h en ec =
-      section-spliced (listBytes (lists .gate)) [] new (lists .own) i k (take third s) start count own-fits h
-      (sym (held .bytes) ∙ ap (λ (t : List ℕ). listBytes (lists .gate) ++ t) (sym (append-none (listBytes (lists .own))))) (gate-long ∙ sym es) en ec
-      ∙ ap (λ (t : List ℕ). listBytes (lists .gate) ++ t) (append-none (listBytes (changed i k (lists .own))))
-
-  pub edit-spliced : (list place : ℕ) (change : Change) (new : List ℕ) (start count taken put : ℕ) → taken ≡ takenBy change → put ≡ putBy change
-      → start ≡ cond (eqb list 0) 0 middle → count ≡ cond (eqb list 0) n m → taken ≤ count → place ≤ count - taken → wholeRecord change new ≡ true → Each Byte new
-      → spliced (take third s) start (count - taken + put) place taken (take (recordSize * put) new) ≡ orderBytes (newOrder (editOf (asked list place change new)) lists)
-  edit-spliced list place change new start count taken put et ep es ec some found w b =
-      let k : Kind = kindOf change new in
-      let t = taken-is change new in
-      let p = put-is change new in
-      let l = target-length (eqb list 0) in
-      let h : place + out k ≤ length (cond (eqb list 0) (lists .gate) (lists .own)) = omega arith in
-      let c = changed-length place k (cond (eqb list 0) (lists .gate) (lists .own)) h in
-      let e : taken ≡ out k = et ∙ sym t in
-      rw (e, ep) (order-spliced (eqb list 0) place k (take (recordSize * putBy change) new) start (count - out k + putBy change) es h (put-bytes-are change new w b) (omega arith))
-
-  -- the section lies within the lists, and they within an order sheet
-  pub section-there : (b : Bool) (start count : ℕ) → start ≡ cond b 0 middle → count ≡ cond b n m → start + listSize count ≤ third
-  section-there true start count es ec = omega (arith, held .place .gateEnd, held .place .ownEnd)
-  section-there false start count es ec = omega (arith, held .place .gateEnd, held .place .ownEnd)
-
-  pub lists-short : (third ≤ orderSize limits) × (third ≤ length s)
-  lists-short = (omega (arith, held .place .gateEnd, held .place .ownEnd, held .place .gateLimit, held .place .ownLimit), held .place .inside)
+-- The bytes of a list changed between what stands before it and behind it.
+pub list-spliced : (x y s new : List ℕ) (l : List Rule) (start count place : ℕ) (change : Change) → Each RuleFits l → length l ≡ count
+    → s ≡ x ++ (listBytes l ++ y) → length x ≡ start → place + takenBy change ≤ count → wholeRecord change new ≡ true → Each Byte new
+    → newBytes s start count place change new ≡ x ++ (listBytes (changed place (kindOf change new) l) ++ y)
+list-spliced x y s new l start count place change fits counted is before found w b =
+    let k : Kind = kindOf change new in
+    let t = taken-is change new in
+    let p = put-is change new in
+    let h : place + out k ≤ length l = omega arith in
+    let c = changed-length place k l h in
+    rw (← t) (section-spliced x y (take (recordSize * putBy change) new) l place k s start (count - out k + putBy change) fits h is before (put-bytes-are change new w b) (omega arith))

@@ -1,4 +1,4 @@
--- The bytes of lists with one section changed are the bytes of the changed lists. Assumes nothing.
+-- Bytes with one list changed, part by part. Assumes nothing.
 use mathlib.Core.Path.{_≡_, ap, sym, _∙_}
 use mathlib.Core.List.{List, _++_, append-assoc}
 use Prim.Native.Nat.{ℕ, _+_, _*_, _-_, _≤_}
@@ -15,7 +15,7 @@ use Rattle.wire.specs.Numbers.{numberBytes}
 use Rattle.wire.specs.Records.{recordsBytes}
 use Rattle.wire.proofs.Numbers.{numberBytes-length}
 use Rattle.wire.proofs.Records.{records-append, RuleFits, recordsBytes-length}
-use Rattle.changes.specs.Orders.{spliced}
+use Rattle.changes.specs.Changes.{spliced}
 use Rattle.wire.specs.Lists.{listBytes}
 
 -- five parts one behind another

@@ -1,23 +1,23 @@
 -- Where the groups of the new A come from, told by whether an allow is at the place and by counts of deny rules.
 -- Assumes nothing.
 use mathlib.Core.Path.{_≡_, refl, ap, sym, _∙_}
-use mathlib.Core.List.{List}
-use mathlib.Core.Bool.{Bool, true, false, _||_, false≢true}
-use Prim.Native.Nat.{ℕ, _+_, _*_, _-_, _≤_}
+use mathlib.Core.List.{List, [], _∷_}
+use mathlib.Core.Bool.{Bool, true, false, cond, _||_, true≢false}
+use Prim.Native.Nat.{ℕ, suc, _+_, _*_, _-_, _≤_}
 use native.Mathlib.Omega.{arith}
-use lib.Dec.{eqb}
-use lib.ListN.{length, take, drop, drop-of-length-le}
+use lib.ListN.{length, take, drop, length-drop, drop-of-length-le}
 use lib.Seq.{take-add, drop-at, drop-drop, length-take-le}
 use Rattle.policy.specs.Fields.{countSize, recordSize}
 use Rattle.policy.specs.Rules.{Rule, isAllow, denies, anyAllow}
+use Rattle.policy.proofs.Kept.{denies-append}
 use Rattle.wire.specs.Records.{ruleIn, rulesIn}
 use Rattle.wire.proofs.Records.{rulesIn-length, rules-from}
 use Rattle.sheet.specs.Readers.{rulesOf}
 use Rattle.draft.specs.declared.Around.{Around}
 use Rattle.draft.proofs.Drafts.{rules-front}
 use Rattle.planner.specs.declared.Change.{Change}
-use Rattle.changes.specs.Orders.{takenBy, putBy}
-use Rattle.changes.specs.Drafts.{Inside, touched, aroundOf}
+use Rattle.changes.specs.Changes.{takenBy, putBy}
+use Rattle.changes.specs.Drafts.{touched, aroundOf}
 
 -- no rule, or the one at the place
 pub no-rule : (s : List ℕ) (place n : ℕ) → n ≡ 0 → false ≡ anyAllow (drop place (rulesOf (place + n) s))
@@ -45,6 +45,16 @@ part-is i n k s h =
     let e = rulesIn-length k (drop countSize s) in
     ap (drop i) (sym (rules-front (i + n) k (drop countSize s) h) ∙ take-add i n l) ∙ drop-at (take i l) (take n (drop i l)) i (length-take-le i l (omega arith))
 
+-- rules without an allow are all denies
+denies-all : (l : List Rule) → anyAllow l ≡ false → denies l ≡ length l
+unfolding anyAllow denies
+denies-all [] h = refl
+denies-all (r ∷ l) h = go (isAllow r) (denies-all l) h
+  where
+    go : (t : Bool) → (anyAllow l ≡ false → denies l ≡ length l) → (t || anyAllow l) ≡ false → cond t (denies l) (suc (denies l)) ≡ suc (length l)
+    go true ih k = absurd (true≢false k)
+    go false ih k = ap suc (ih k)
+
 module _ (pair order : List ℕ) (gate renewed place : ℕ) (change : Change) (i : place + takenBy change ≤ gate) (j : place + putBy change ≤ renewed)
     {earlier groups taken put : ℕ} (ee : earlier ≡ denies (rulesOf place pair)) (eg : groups ≡ denies (rulesOf gate pair)) (et : taken ≡ takenBy change) (ep : put ≡ putBy change) where
   abbrev old : List Rule
@@ -65,31 +75,28 @@ module _ (pair order : List ℕ) (gate renewed place : ℕ) (change : Change) (i
   abbrev wide : Around
   wide = record { earlier = earlier; later = groups; groups = groups; place = place; to = renewed }
 
-  wide-is : touched place change old fresh ≡ true → wide ≡ aroundOf true place change old fresh
+  wide-is : touched place change old fresh ≡ true → wide ≡ aroundOf place change old fresh
   unfolding aroundOf
   wide-is t = rw (t, earlier-is, eg, rulesIn-length renewed (drop countSize order))
 
-  pub places-taken : true ≡ anyAllow (drop place (rulesOf (place + taken) pair)) → wide ≡ aroundOf true place change old fresh
+  pub places-taken : true ≡ anyAllow (drop place (rulesOf (place + taken) pair)) → wide ≡ aroundOf place change old fresh
   unfolding touched
   places-taken h = wide-is (rw (← taken-is, ← h))
 
   module _ (none : false ≡ anyAllow (drop place (rulesOf (place + taken) pair))) where
-    pub places-put : true ≡ anyAllow (drop place (rulesOf (place + put) order)) → wide ≡ aroundOf true place change old fresh
+    pub places-put : true ≡ anyAllow (drop place (rulesOf (place + put) order)) → wide ≡ aroundOf place change old fresh
     unfolding touched
     places-put h = wide-is (rw (← taken-is, ← none, ← put-is, ← h))
 
-    pub places-kept : {later : ℕ} → later ≡ denies (rulesOf (place + taken) pair) → false ≡ anyAllow (drop place (rulesOf (place + put) order))
-        → record { earlier = earlier; later = later; groups = groups; place = place; to = place + put } ≡ aroundOf true place change old fresh
+    -- what is taken out, if anything, is a deny rule
+    later-is : denies (take (place + takenBy change) old) ≡ earlier + taken
+    later-is =
+        let l = rulesIn-length gate (drop countSize pair) in
+        let m : length (take (takenBy change) (drop place old)) ≡ takenBy change = length-take-le (takenBy change) (drop place old) (rw length-drop (omega arith)) in
+        let d = denies-all (take (takenBy change) (drop place old)) (sym taken-is ∙ sym none) in
+        ap denies (take-add place (takenBy change) old) ∙ denies-append (take place old) (take (takenBy change) (drop place old)) ∙ omega (arith, earlier-is)
+
+    pub places-kept : false ≡ anyAllow (drop place (rulesOf (place + put) order))
+        → record { earlier = earlier; later = earlier + taken; groups = groups; place = place; to = place + put } ≡ aroundOf place change old fresh
     unfolding aroundOf touched
-    places-kept {later} el h =
-        let l : later ≡ denies (take (place + takenBy change) old) = rw (rules-front (place + takenBy change) gate (drop countSize pair) i, ← et) el in
-        rw (← taken-is, ← none, ← put-is, ← h, earlier-is, l, eg, ep)
-
-pub places-own : (pair order : List ℕ) (gate renewed list place : ℕ) (change : Change) {groups : ℕ} → groups ≡ denies (rulesOf gate pair) → eqb list 0 ≡ false
-    → record { earlier = groups; later = groups; groups = groups; place = gate; to = gate } ≡ aroundOf (eqb list 0) place change (rulesOf gate pair) (rulesOf renewed order)
-unfolding aroundOf
-places-own pair order gate renewed list place change all h = rw (h, all, rulesIn-length gate (drop countSize pair))
-
-pub inside-gate : (b : Bool) (i : ℕ) (c : Change) (n m : ℕ) → b ≡ true → Inside b i c n m → (i + takenBy c ≤ n) × (i + putBy c ≤ m)
-inside-gate true i c n m e h = h
-inside-gate false i c n m e h = absurd (false≢true e)
+    places-kept h = rw (← taken-is, ← none, ← put-is, ← h, later-is, earlier-is, eg, ep)

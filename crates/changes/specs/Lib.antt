@@ -1,2 +1,2 @@
-pub mod Orders
+pub mod Changes
 pub mod Drafts

@@ -1,4 +1,4 @@
-// What an edit changes: the new lists as an order sheet, and where the groups of the new A come from.
+// What an edit changes: the bytes of a sheet with one of its lists changed, and where the groups of the new A come from.
 use draft::Around;
 use planner::Change;
 use policy::Answer;
@@ -6,26 +6,16 @@ use policy::COUNT_BYTES;
 use policy::RECORD_BYTES;
 use policy::Refusal;
 ghost use mathlib.Core.Path.{_≡_};
-ghost use mathlib.Core.Bool.{true, cond};
 ghost use Prim.Native.Nat.{_+_, _*_, _≤_, _<_};
-ghost use lib.Dec.{eqb};
 ghost use lib.ListN.{length, drop};
 ghost use lib.Seq.{sets};
 ghost use Rattle.policy.specs.Fields.{countSize, recordSize, limits};
 ghost use Rattle.policy.specs.Rules.{anyAllow};
-ghost use Rattle.sheet.specs.Orders.{orderSize};
 ghost use Rattle.wire.specs.Lists.{listSize};
-ghost use Rattle.sheet.specs.Readers.{rulesOf, listsOf};
-ghost use Rattle.planner.specs.Edits.{asked, wholeRecord};
-ghost use Rattle.changes.specs.Orders.{takenBy, putBy, spliced, OrderChanged, ListsHeld};
-ghost use Rattle.changes.specs.Drafts.{Inside, aroundOf};
-
-// Where a sheet is edited, and what is done there: in A (list 0) or in B (list 1), at a place from 0.
-pub struct Site {
-    pub list: u32,
-    pub place: usize,
-    pub change: Change,
-}
+ghost use Rattle.sheet.specs.Readers.{rulesOf};
+ghost use Rattle.planner.specs.Edits.{wholeRecord};
+ghost use Rattle.changes.specs.Changes.{takenBy, putBy, spliced, changedBytes, ListChanged};
+ghost use Rattle.changes.specs.Drafts.{aroundOf};
 
 // How many rules a change takes out at its place, and how many it puts in.
 fn taken_by(change: Change) -> usize
@@ -59,58 +49,45 @@ fn is_whole(change: Change, new: &[u8]) -> bool
     }
 }
 
-// What goes with list A, or what goes with list B.
-fn pick(list: u32, a: usize, b: usize) -> usize
-    ensures { λ r. ⌜ r ≡ cond (eqb list 0) a b ⌝ }
-{
-    if list == 0 { a } else { b }
-}
-
-// The lists with the section at `start` changed, at the front of the buffer; their length.
+// The bytes with the list at `start` changed, at the front of the buffer; their length.
 fn splice(
     out: &mut [u8],
-    lists: &[u8],
+    s: &[u8],
     start: usize,
     count: usize,
     place: usize,
     taken: usize,
     new: &[u8],
 ) -> usize
-    requires { ⌜ (count < 65536) × (start + countSize + recordSize * place + recordSize * taken ≤ length (now lists)) × (length (now lists) + length (now new) ≤ length (now out)) ⌝ }
-    ensures { λ r. ⌜ (r ≡ length (spliced (now (lists .entry)) start count place taken (now (new .entry)))) × (now (out .exit) ≡ sets (now (out .entry)) 0 (spliced (now (lists .entry)) start count place taken (now (new .entry)))) ⌝ }
+    requires { ⌜ (count < 65536) × (start + countSize + recordSize * place + recordSize * taken ≤ length (now s)) × (length (now s) + length (now new) ≤ length (now out)) ⌝ }
+    ensures { λ r. ⌜ (r ≡ length (spliced (now (s .entry)) start count place taken (now (new .entry)))) × (now (out .exit) ≡ sets (now (out .entry)) 0 (spliced (now (s .entry)) start count place taken (now (new .entry)))) ⌝ }
 {
     let first = start + COUNT_BYTES;
     let from = first + RECORD_BYTES * place;
     let next = from + RECORD_BYTES * taken;
-    wire::put_bytes(out, 0, &lists[..start]);
+    wire::put_bytes(out, 0, &s[..start]);
     wire::put_count(out, start, count);
-    wire::put_bytes(out, first, &lists[first..from]);
+    wire::put_bytes(out, first, &s[first..from]);
     let end = wire::put_bytes(out, from, new);
-    wire::put_bytes(out, end, &lists[next..])
+    wire::put_bytes(out, end, &s[next..])
 }
 
-// The new lists as an order sheet at the front of the buffer, and its length; or 9, or 3 for the record.
-pub fn change_order(
-    pair: &[u8],
-    gate: usize,
-    own: usize,
-    middle: usize,
-    third: usize,
-    site: Site,
+// The bytes with the list of `count` rules at `start` changed, at the front of the buffer, and their length; or 9, or 3 for the
+// record.
+pub fn change_list(
+    s: &[u8],
+    start: usize,
+    count: usize,
+    place: usize,
+    change: Change,
     new: &[u8],
-    order: &mut [u8],
+    out: &mut [u8],
 ) -> Answer
-    requires { ⌜ (ListsHeld (now pair) gate own middle third) × (orderSize limits + recordSize ≤ length (now order)) ⌝ }
-    ensures { λ r. ⌜ OrderChanged (asked (site .list) (site .place) (site .change) (now (new .entry))) (listsOf gate own middle (now (pair .entry))) (now (order .entry)) r (now (order .exit)) ⌝ }
+    requires { ⌜ (1 ≤ count) × (count ≤ limits .own) × (start + listSize count ≤ length (now s)) × (length (now s) + recordSize ≤ length (now out)) ⌝ }
+    ensures { λ r. ⌜ ListChanged (changedBytes (now (s .entry)) start count place change (now (new .entry))) (now (out .entry)) r (now (out .exit)) ⌝ }
 {
-    let list = site.list;
-    let place = site.place;
-    let change = site.change;
-    if 1 < list {
-        return Answer::Refused(Refusal::NoPlace);
-    }
     let taken = taken_by(change);
-    let left = pick(list, gate, own) - taken;
+    let left = count - taken;
     if left < place {
         return Answer::Refused(Refusal::NoPlace);
     }
@@ -118,18 +95,8 @@ pub fn change_order(
         return Answer::Refused(Refusal::LengthWrong);
     }
     let put = put_by(change);
-    let start = pick(list, 0, middle);
     let size = RECORD_BYTES * put;
-    let end = splice(
-        order,
-        &pair[..third],
-        start,
-        left + put,
-        place,
-        taken,
-        &new[..size],
-    );
-    Answer::Length(end)
+    Answer::Length(splice(out, s, start, left + put, place, taken, &new[..size]))
 }
 
 // Whether an allow is among n rules of a list from a place on, where n is 0 or 1.
@@ -144,9 +111,8 @@ fn any_allow(list: &[u8], place: usize, n: usize) -> bool
     rule.action == 1
 }
 
-// Where the groups of the new A come from, if A is edited: those behind the place too are worked out anew where an allow is
-// taken out or put in.
-fn gate_places(
+// Where the groups of the new A come from: those behind the place too are worked out anew where an allow is taken out or put in.
+pub fn places(
     pair: &[u8],
     gate: usize,
     place: usize,
@@ -155,7 +121,7 @@ fn gate_places(
     renewed: usize,
 ) -> Around
     requires { ⌜ (listSize gate ≤ length (now pair)) × (listSize renewed ≤ length (now order)) × (place + takenBy change ≤ gate) × (place + putBy change ≤ renewed) ⌝ }
-    ensures { λ r. ⌜ r ≡ aroundOf true place change (rulesOf gate (now (pair .entry))) (rulesOf renewed (now (order .entry))) ⌝ }
+    ensures { λ r. ⌜ r ≡ aroundOf place change (rulesOf gate (now (pair .entry))) (rulesOf renewed (now (order .entry))) ⌝ }
 {
     let taken = taken_by(change);
     let put = put_by(change);
@@ -174,31 +140,11 @@ fn gate_places(
     if any_allow(order, place, put) {
         return wide;
     }
-    let later = sheet::count_denies(pair, place + taken);
     Around {
         earlier,
-        later,
+        later: earlier + taken,
         groups,
         place,
         to: place + put,
-    }
-}
-
-// Where the groups of the new A come from; an edit of B keeps them all.
-pub fn places(pair: &[u8], gate: usize, site: Site, order: &[u8], renewed: usize) -> Around
-    requires { ⌜ (listSize gate ≤ length (now pair)) × (listSize renewed ≤ length (now order)) × (Inside (eqb (site .list) 0) (site .place) (site .change) gate renewed) ⌝ }
-    ensures { λ r. ⌜ r ≡ aroundOf (eqb (site .list) 0) (site .place) (site .change) (rulesOf gate (now (pair .entry))) (rulesOf renewed (now (order .entry))) ⌝ }
-{
-    if site.list == 0 {
-        let change = site.change;
-        return gate_places(pair, gate, site.place, change, order, renewed);
-    }
-    let groups = sheet::count_denies(pair, gate);
-    Around {
-        earlier: groups,
-        later: groups,
-        groups,
-        place: gate,
-        to: gate,
     }
 }

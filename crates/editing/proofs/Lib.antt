@@ -1,3 +1,5 @@
 pub mod Slots
 pub mod Revised
+pub mod Gate
+pub mod Own
 pub mod Calls

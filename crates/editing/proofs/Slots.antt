@@ -1,4 +1,4 @@
--- The groups of the new A, by where they come from, are those that an edit gives. Assumes nothing.
+-- The groups of the new A, by where they come from, are those that an edit of A gives. Assumes nothing.
 use mathlib.Core.Path.{_≡_, ap, sym, _∙_}
 use mathlib.Core.List.{List, [], _++_, map}
 use mathlib.Core.Bool.{Bool, true, false, cond, _||_}
@@ -19,10 +19,10 @@ use Rattle.wire.proofs.Records.{rulesIn-length}
 use Rattle.sheet.specs.Readers.{groupsFrom}
 use Rattle.sheet.proofs.Pairs.{denies-most}
 use Rattle.draft.specs.Drafts.{alone, stretch}
-use Rattle.draft.proofs.Drafts.{rules-front, stretch-none}
+use Rattle.draft.proofs.Drafts.{rules-front}
 use Rattle.planner.specs.Edits.{kindOf}
 use Rattle.planner.specs.declared.Change.{Change}
-use Rattle.changes.specs.Orders.{takenBy, putBy}
+use Rattle.changes.specs.Changes.{takenBy, putBy}
 use Rattle.changes.specs.Drafts.{touched, aroundOf}
 use Rattle.draft.specs.declared.Around.{Around}
 use Rattle.draft.proofs.Runs.{groups-front, groups-count}
@@ -46,27 +46,6 @@ around-length f x m n y gs h =
     go true e = slots-length f (allowsIn x ++ allowsIn n) y
     go false e = length-map (drop (denies x + denies m) gs) kept ∙ rw length-drop (omega arith)
 
--- an edit of B
-module _ (i : ℕ) (c : Change) (l : List Rule) (new : List Rule) (groups rules : List ℕ) where
-  pub own-slots : slotsAround (aroundOf false i c l new) groups rules ≡ map kept (groupsFrom (denies l) groups)
-  unfolding aroundOf
-  own-slots =
-      let n = groups-count (denies l) groups in
-      let z : length (groupsFrom (denies l) groups) ≤ denies l = omega arith in
-      rw (stretch-none rules (length l), drop-of-length-le (groupsFrom (denies l) groups) z) (append-none (map kept (groupsFrom (denies l) groups)))
-
-  pub own-placed : (gate : ℕ) → length l ≤ gate → gate ≤ limits .gate → Placed (aroundOf false i c l new) gate
-  unfolding aroundOf
-  own-placed gate h k = record {
-    earlier = omega arith;
-    before = denies-most l;
-    upTo = omega arith;
-    inGate = h;
-    later = omega arith;
-    fits = omega arith;
-  }
-
--- an edit of A
 module _ (i : ℕ) (c : Change) (s : List ℕ) (l : List Rule) (there : i + out (kindOf c s) ≤ length l) where
   abbrev k : Kind
   k = kindOf c s
@@ -136,7 +115,7 @@ module _ (i : ℕ) (c : Change) (s : List ℕ) (l : List Rule) (there : i + out 
     same true = rw (kept-before, none-behind, stretch-all, append-none (slots alone (allowsIn (front i l)) (put k) ++ slots alone (allowsIn (front i l) ++ allowsIn (put k)) (back i k l)))
     same false = rw (kept-before, stretch-put, later-is)
 
-    pub gate-slots : slotsAround (aroundOf true i c l new) groups rules ≡ around alone (front i l) (gone i k l) (put k) (back i k l) gs
+    pub gate-slots : slotsAround (aroundOf i c l new) groups rules ≡ around alone (front i l) (gone i k l) (put k) (back i k l) gs
     unfolding aroundOf around
     gate-slots = rw touched-is (same (anyAllow (gone i k l) || anyAllow (put k)))
 
@@ -161,6 +140,6 @@ module _ (i : ℕ) (c : Change) (s : List ℕ) (l : List Rule) (there : i + out 
           fits = omega (arith, denies-most (back i k l));
         }
 
-    pub gate-placed : n ≤ limits .gate → Placed (aroundOf true i c l new) n
+    pub gate-placed : n ≤ limits .gate → Placed (aroundOf i c l new) n
     unfolding aroundOf
     gate-placed h = placed (touched i c l new) h

@@ -1,23 +1,27 @@
-// Edit: a pair sheet changed at one place of A or of B. The new lists are written as an order sheet into a local buffer and
-// read there, and section C is drafted from kept groups and groups worked out anew, before the sheet is touched.
-use changes::Site;
-use changes::change_order;
+// Edit: a pair sheet changed at one place of A or of B. The new lists are made in another buffer and the changed one is read
+// there, and the sheet is not touched before the edit is known to be accepted.
+use changes::change_list;
 use changes::places;
 use groups::WORK_BYTES;
 use planner::Change;
 use policy::Answer;
 use policy::COUNT_BYTES;
+use policy::GATE_MOST;
+use policy::OWN_MOST;
 use policy::RECORD_BYTES;
 use policy::Refusal;
+use policy::TOTAL_MOST;
 use sheet::ORDER_BYTES;
-use sheet::OrderParts;
 use sheet::PAIR_BYTES;
 use sheet::PairParts;
+use sheet::Section;
+ghost use mathlib.Core.Path.{_≡_};
 ghost use Prim.Native.Nat.{_+_, _≤_};
 ghost use lib.ListN.{length};
 ghost use Rattle.policy.specs.Fields.{recordSize, limits};
+ghost use Rattle.policy.specs.Refusals.{said, refused, andThen};
 ghost use Rattle.sheet.specs.Orders.{orderSize};
-ghost use Rattle.sheet.specs.Pairs.{pairSize};
+ghost use Rattle.sheet.specs.Pairs.{pairIn, pairSize};
 ghost use Rattle.groups.specs.Worked.{workSize};
 ghost use Rattle.planner.specs.Edits.{asked, Edits};
 ghost use Rattle.editing.specs.Edits.{Revised};
@@ -25,59 +29,142 @@ ghost use Rattle.editing.specs.Edits.{Revised};
 // The largest order sheet, and a record more: a new count is tested once it is written.
 const EDIT_BYTES: usize = ORDER_BYTES + RECORD_BYTES;
 
-// The pair sheet read, the new order sheet made and read, and the new pair sheet written if there is room for its groups.
-fn revise_with(
+// An edit of A: the new lists as an order sheet, the new A read there, and the new pair sheet written if there is room for the
+// groups.
+fn revise_gate_with(
     sheet: &mut [u8],
     used: usize,
-    site: Site,
+    place: usize,
+    change: Change,
     new: &[u8],
     order: &mut [u8],
     work: &mut [u8],
 ) -> Answer
     requires { ⌜ (pairSize limits ≤ length (now sheet)) × (used ≤ length (now sheet)) × (orderSize limits + recordSize ≤ length (now order)) × (workSize limits ≤ length (now work)) ⌝ }
-    ensures { λ r. ⌜ Revised (now (sheet .entry)) used (asked (site .list) (site .place) (site .change) (now (new .entry))) (now (work .entry)) r (now (sheet .exit)) (now (work .exit)) ⌝ }
+    ensures { λ r. ⌜ Revised (now (sheet .entry)) used (asked 0 place change (now (new .entry))) (now (work .entry)) r (now (sheet .exit)) (now (work .exit)) ⌝ }
 {
     match sheet::read_pair(&sheet[..used]) {
         PairParts::Fault(f) => Answer::Refused(f),
         PairParts::Parts {
             gate,
             own,
-            middle,
+            middle: _,
             third,
             boxes: _,
-        } => match change_order(&sheet[..used], gate, own, middle, third, site, new, order) {
+        } => match change_list(&sheet[..third], 0, gate, place, change, new, order) {
             Answer::Refused(f) => Answer::Refused(f),
-            Answer::Length(end) => match sheet::read_order(&order[..end]) {
-                OrderParts::Fault(f) => Answer::Refused(f),
-                OrderParts::Parts {
-                    gate: renewed,
-                    own: others,
-                    middle: _,
+            Answer::Length(end) => match sheet::read_section(&order[..end], GATE_MOST) {
+                Section::Fault(f) => Answer::Refused(f),
+                Section::Rules {
+                    count: renewed,
+                    next: _,
                 } => {
-                    let around = places(&sheet[..used], gate, site, &order[..end], renewed);
-                    let from = third + COUNT_BYTES;
-                    planner::finish(
-                        sheet,
-                        used,
-                        from,
+                    let around = places(
+                        &sheet[..used],
+                        gate,
+                        place,
+                        change,
                         &order[..end],
                         renewed,
-                        others,
-                        around,
-                        work,
-                    )
+                    );
+                    let from = third + COUNT_BYTES;
+                    planner::finish(sheet, used, from, &order[..end], renewed, own, around, work)
                 }
             },
         },
     }
 }
 
-fn revise(sheet: &mut [u8], used: usize, site: Site, new: &[u8], work: &mut [u8]) -> Answer
+fn revise_gate(
+    sheet: &mut [u8],
+    used: usize,
+    place: usize,
+    change: Change,
+    new: &[u8],
+    work: &mut [u8],
+) -> Answer
     requires { ⌜ (pairSize limits ≤ length (now sheet)) × (used ≤ length (now sheet)) × (workSize limits ≤ length (now work)) ⌝ }
-    ensures { λ r. ⌜ Revised (now (sheet .entry)) used (asked (site .list) (site .place) (site .change) (now (new .entry))) (now (work .entry)) r (now (sheet .exit)) (now (work .exit)) ⌝ }
+    ensures { λ r. ⌜ Revised (now (sheet .entry)) used (asked 0 place change (now (new .entry))) (now (work .entry)) r (now (sheet .exit)) (now (work .exit)) ⌝ }
 {
     let mut order = [0u8; EDIT_BYTES];
-    revise_with(sheet, used, site, new, &mut order, work)
+    revise_gate_with(sheet, used, place, change, new, &mut order, work)
+}
+
+// An edit of B: every group is kept, so that the new pair sheet is the old one with the new B in it. It is made in the work
+// buffer, and the new B read there.
+fn revise_own(
+    sheet: &mut [u8],
+    used: usize,
+    place: usize,
+    change: Change,
+    new: &[u8],
+    work: &mut [u8],
+) -> Answer
+    requires { ⌜ (pairSize limits ≤ length (now sheet)) × (used ≤ length (now sheet)) × (workSize limits ≤ length (now work)) ⌝ }
+    ensures { λ r. ⌜ Revised (now (sheet .entry)) used (asked 1 place change (now (new .entry))) (now (work .entry)) r (now (sheet .exit)) (now (work .exit)) ⌝ }
+{
+    match sheet::read_pair(&sheet[..used]) {
+        PairParts::Fault(f) => Answer::Refused(f),
+        PairParts::Parts {
+            gate: _,
+            own,
+            middle,
+            third: _,
+            boxes,
+        } => match change_list(&sheet[..used], middle, own, place, change, new, work) {
+            Answer::Refused(f) => Answer::Refused(f),
+            Answer::Length(end) => match sheet::read_section(&work[middle..end], OWN_MOST) {
+                Section::Fault(f) => Answer::Refused(f),
+                Section::Rules {
+                    count: renewed,
+                    next: _,
+                } => {
+                    if TOTAL_MOST < boxes + renewed {
+                        return Answer::Refused(Refusal::TooManyBoxes);
+                    }
+                    wire::fill(sheet, PAIR_BYTES, &work[..end]);
+                    Answer::Length(end)
+                }
+            },
+        },
+    }
+}
+
+// There are two lists, A (0) and B (1): any other is refused as a place that is not there, once the sheet is read.
+fn refuse_list(pair: &[u8]) -> Answer
+    ensures { λ r. ⌜ said r ≡ andThen (pairIn limits (now (pair .entry))) (λ p. refused 9) ⌝ }
+{
+    match sheet::read_pair(pair) {
+        PairParts::Fault(f) => Answer::Refused(f),
+        PairParts::Parts {
+            gate: _,
+            own: _,
+            middle: _,
+            third: _,
+            boxes: _,
+        } => Answer::Refused(Refusal::NoPlace),
+    }
+}
+
+fn revise(
+    sheet: &mut [u8],
+    used: usize,
+    list: u32,
+    place: usize,
+    change: Change,
+    new: &[u8],
+    work: &mut [u8],
+) -> Answer
+    requires { ⌜ (pairSize limits ≤ length (now sheet)) × (used ≤ length (now sheet)) × (workSize limits ≤ length (now work)) ⌝ }
+    ensures { λ r. ⌜ Revised (now (sheet .entry)) used (asked list place change (now (new .entry))) (now (work .entry)) r (now (sheet .exit)) (now (work .exit)) ⌝ }
+{
+    if list == 0 {
+        return revise_gate(sheet, used, place, change, new, work);
+    }
+    if list == 1 {
+        return revise_own(sheet, used, place, change, new, work);
+    }
+    refuse_list(&sheet[..used])
 }
 
 // Edit: a rule put in, taken out or replaced at a place of A (list 0) or B (list 1) of a pair sheet of a stated length; the
@@ -102,12 +189,7 @@ pub fn edit(
     if work.len() < WORK_BYTES {
         return Answer::Refused(Refusal::BufferShort);
     }
-    let site = Site {
-        list,
-        place,
-        change,
-    };
-    let answer = revise(sheet, used, site, new, work);
+    let answer = revise(sheet, used, list, place, change, new, work);
     wire::zero(work, 0, WORK_BYTES);
     answer
 }

@@ -97,6 +97,7 @@ pub record PairAccepted (s : List ℕ) (n m middle third boxes : ℕ) : Type 0 w
   pub reads : pairIn limits s ≡ accepted (pairOf n m middle third s)
   pub good : PairGood limits (pairOf n m middle third s)
   pub listsBytes : orderBytes (listsOf n m middle s) ≡ take third s
+  pub sectionBytes : numberBytes countSize (length (pairOf n m middle third s .groups)) ++ groupsBytes (pairOf n m middle third s .groups) ≡ drop third s
   pub groupBytes : groupsBytes (pairOf n m middle third s .groups) ≡ drop (third + countSize) s
   pub place : PairPlace s n m middle third boxes
 
@@ -122,6 +123,7 @@ pair-accepted {s} x b n m middle third boxes e =
       reads = q;
       good = g;
       listsBytes = sym (ap (take third) (sym k) ∙ take-at (gate ++ own) (head ++ rest) third lt);
+      sectionBytes = behind;
       groupBytes =
           sym (sym (drop-drop countSize third s)
           ∙ (ap (drop countSize) (sym behind) ∙ drop-at head rest countSize (numberBytes-length countSize (length (p .groups)))));

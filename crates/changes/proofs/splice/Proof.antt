@@ -65,7 +65,7 @@ returns : tie.Need-returns
 returns c =
     let start = c .before .before .before .before .before .before .before .before .before .before .before .before .before .before .before .before .before .before .before .before .before .before .before .before .before .before in
     let a = start .args in
-    splice-put (a .out .now) (a .lists .now) (a .new .now) (c .before .before .before .before .before .before .before .before .before .before .before .before .before .before .before .before .before .before .before .before .put-bytes .last .0) (c .before .before .before .before .before .before .before .before .before .before .before .before .before .before .before .before .put-count .last .0) (c .before .before .before .before .before .before .before .before .before .before .before .put-bytes2 .last .0) (c .before .before .before .before .before .before .before .put-bytes3 .last .0) (c .before .before .put-bytes4 .last .0)
+    splice-put (a .out .now) (a .s .now) (a .new .now) (c .before .before .before .before .before .before .before .before .before .before .before .before .before .before .before .before .before .before .before .before .put-bytes .last .0) (c .before .before .before .before .before .before .before .before .before .before .before .before .before .before .before .before .put-count .last .0) (c .before .before .before .before .before .before .before .before .before .before .before .put-bytes2 .last .0) (c .before .before .before .before .before .before .before .put-bytes3 .last .0) (c .before .before .put-bytes4 .last .0)
     (a .start) (a .count) (a .place) (a .taken) _ _ _ (c .before .before .before .before .before .before .before .put-bytes3 .result) (c .before .before .put-bytes4 .result) refl refl refl (start .pre .1)
     (c .before .before .before .before .before .before .before .before .before .before .before .before .before .before .before .before .before .before .before .before .put-bytes .ensures .1) (c .before .before .before .before .before .before .before .before .before .before .before .before .before .before .before .before .put-count .ensures) (c .before .before .before .before .before .before .before .before .before .before .before .put-bytes2 .ensures .1) (c .before .before .before .before .before .before .before .put-bytes3 .ensures .1) (c .before .before .put-bytes4 .ensures .1)
     (c .before .before .before .before .before .before .before .put-bytes3 .ensures .0) (c .before .before .put-bytes4 .ensures .0)

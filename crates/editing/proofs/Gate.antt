@@ -1,0 +1,231 @@
+-- An edit of A, once the pair sheet is read and the new order sheet made. Assumes nothing.
+use mathlib.Core.Path.{_≡_, refl, ap, sym, subst, _∙_}
+use mathlib.Core.List.{List, [], _∷_, _++_}
+use Prim.Native.Nat.{ℕ, _+_, _-_, _≤_}
+use native.Mathlib.Omega.{arith}
+use lib.ListN.{length, take, drop, length-append}
+use lib.Seq.{drop-at, take-add, take-all, length-take-le}
+use Rattle.lists.specs.Lists.{Each}
+use Rattle.lists.proofs.Lists.{three-parts}
+use Rattle.policy.specs.Fields.{countSize, recordSize, limits}
+use Rattle.policy.specs.Ranges.{Region}
+use Rattle.policy.specs.Rules.{Rule, denies}
+use Rattle.policy.specs.Refusals.{refused, unless, numberOf}
+use Rattle.policy.specs.Move.{Order, Pair, listRefusal}
+use Rattle.policy.specs.Edit.{Kind, out, put, front, gone, back, changed, newOrder, newSlots}
+use Rattle.policy.specs.declared.Answer.{Answer}
+use Rattle.policy.specs.declared.Answer.the-variants.{Length, Refused}
+use Rattle.policy.specs.declared.Refusal.{Refusal}
+use Rattle.policy.proofs.Answers.{unless-accepted}
+use Rattle.wire.specs.Numbers.{Byte}
+use Rattle.wire.specs.Lists.{listSize, listBytes}
+use Rattle.wire.proofs.Records.{rulesIn-length}
+use Rattle.wire.proofs.Lists.{listBytes-length, list-rules}
+use Rattle.groups.specs.Worked.{workSize}
+use Rattle.sheet.specs.Orders.{orderIn, orderBytes, orderSize}
+use Rattle.sheet.specs.Sections.{reading, section}
+use Rattle.sheet.specs.Pairs.{pairBytes, pairSize}
+use Rattle.sheet.specs.Readers.{rulesOf, sectionHeard, SectionPlace, SectionPlaced, SectionRead, listsOf, OrderRead, orderHeard, OrderPlaced, pairOf}
+use Rattle.sheet.specs.declared.Section.{Section}
+use Rattle.sheet.specs.declared.Section.the-variants as S
+use Rattle.sheet.specs.declared.OrderParts.the-variants.{Parts}
+use Rattle.sheet.proofs.Outcomes.{faultless}
+use Rattle.sheet.proofs.Sections.{section-back}
+use Rattle.sheet.proofs.Orders.{ListFits, faultless-fits, order-again}
+use Rattle.sheet.proofs.Accepted.{PairAccepted}
+use Rattle.draft.specs.Arounds.{runSize, GroupsHeld, slotsAround, Placed}
+use Rattle.draft.specs.declared.Around.{Around}
+use Rattle.draft.proofs.Runs.{run-length}
+use Rattle.planner.specs.Steps.{Writes, slotted, partOf, Finishing}
+use Rattle.planner.specs.Edits.{Asked, asked, kindOf, editOf, editedOf}
+use Rattle.planner.specs.declared.Change.{Change}
+use Rattle.planner.proofs.Demands.{changed-fits}
+use Rattle.changes.specs.Changes.{takenBy, putBy, changedBytes, ListChanged}
+use Rattle.changes.specs.Drafts.{aroundOf}
+use Rattle.changes.proofs.Changes.{ChangeDone, change-done, list-spliced, taken-is, put-is, changed-length}
+use Rattle.editing.specs.Edits.{Revised}
+use Rattle.editing.proofs.Slots.{around-length, gate-slots, gate-placed}
+use Rattle.editing.proofs.Revised as revised
+
+-- a part of the sheet is the end of what is used of it
+part-is : (from used : ℕ) (sheet : List ℕ) → from ≤ used → used ≤ length sheet → partOf from used sheet ≡ drop from (take used sheet)
+part-is from used sheet h k =
+    let e : used ≡ from + (used - from) = omega arith in
+    sym (ap (λ (n : ℕ). drop from (take n sheet)) e ∙ ap (drop from) (take-add from (used - from) sheet)
+    ∙ drop-at (take from sheet) (take (used - from) (drop from sheet)) from (length-take-le from sheet (omega arith)))
+
+module _ {s : List ℕ} {n m middle third boxes : ℕ} (a : PairAccepted s n m middle third boxes) where
+  abbrev p : Pair
+  p = pairOf n m middle third s
+
+  abbrev o : Order
+  o = p .order
+
+  pub gate-inside : listSize n ≤ length s
+  gate-inside = omega (arith, a .place .lists .gateEnd, a .place .lists .ownEnd, a .place .lists .inside)
+
+  -- the lists' bytes, which the new order sheet is made of
+  pub lists-long : (length (take third s) ≡ third) × (0 + listSize n ≤ length (take third s)) × (third ≤ orderSize limits) × (third + countSize ≤ length s)
+  lists-long =
+      let l : length (take third s) ≡ third = length-take-le third s (a .place .lists .inside) in
+      let g = a .place .lists .gateEnd in
+      let w = a .place .lists .ownEnd in
+      (l, omega arith, omega (arith, a .place .lists .gateLimit, a .place .lists .ownLimit), omega (arith, a .place .end))
+
+  gate-fits : ListFits (o .gate)
+  gate-fits = faultless-fits (limits .gate) (o .gate) (omega arith) (a .good .gate)
+
+  own-fits : ListFits (o .own)
+  own-fits = faultless-fits (limits .own) (o .own) (omega arith) (a .good .own)
+
+  gate-counted : length (o .gate) ≡ n
+  gate-counted = rulesIn-length n (drop countSize s)
+
+  own-counted : length (o .own) ≡ m
+  own-counted = rulesIn-length m (drop countSize (drop middle s))
+
+  pub gate-some : (1 ≤ n) × (n ≤ limits .own)
+  gate-some = (omega (arith, faultless (limits .gate) (o .gate) (a .good .gate) .few, gate-counted), omega (arith, a .place .lists .gateLimit))
+
+  groups-held : GroupsHeld (drop (third + countSize) s) (denies (rulesOf n s))
+  groups-held =
+      let l = run-length (denies (rulesOf n s)) (drop (third + countSize) s) (a .good .groups .boxes) in
+      let e : length (drop (third + countSize) s) ≡ runSize (denies (rulesOf n s)) (drop (third + countSize) s) = ap length (sym (a .groupBytes)) ∙ l in
+      record {
+        boxes = a .good .groups .boxes;
+        bytes = a .groupBytes ∙ sym (take-all (runSize (denies (rulesOf n s)) (drop (third + countSize) s)) (drop (third + countSize) s) (omega arith));
+        there = omega arith;
+        few = omega (arith, a .place .totalLimit, a .place .boxesAre);
+      }
+
+  module _ (place : ℕ) (change : Change) (new : List ℕ) (whole : Each Byte new) where
+    abbrev q : Asked
+    q = asked 0 place change new
+
+    abbrev k : Kind
+    k = kindOf change new
+
+    abbrev l′ : List Rule
+    l′ = changed place k (o .gate)
+
+    abbrev o′ : Order
+    o′ = newOrder (editOf q) o
+
+    pub gate-refused : {order order′ : List ℕ} (f : Refusal) → ListChanged (changedBytes (take third s) 0 n place change new) order (Refused f) order′ → editedOf limits s q ≡ refused (numberOf f)
+    gate-refused f x = revised.revised-refused a 0 place change new refl n gate-counted (take third s) 0 f x
+
+    module _ {order order′ : List ℕ} {end : ℕ} (x : ListChanged (changedBytes (take third s) 0 n place change new) order (Length end) order′) (roomy : orderSize limits + recordSize ≤ length order) where
+      d : ChangeDone (take third s) 0 n place change new order order′ end
+      d = let l = lists-long in change-done (take third s) 0 n place change new (l .1) (omega (arith, l .0, l .2)) x
+
+      abbrev t : List ℕ
+      t = take end order′
+
+      new-fits : ListFits l′
+      new-fits = changed-fits place change new (o .gate) (d .whole) whole (gate-fits .rules) (omega (arith, gate-counted, a .place .lists .gateLimit))
+
+      -- the new order sheet is that of the new lists
+      bytes-are : t ≡ listBytes l′ ++ listBytes (o .own)
+      unfolding orderBytes
+      bytes-are = d .bytes ∙ list-spliced [] (listBytes (o .own)) (take third s) new (o .gate) 0 n place change (gate-fits .rules) gate-counted (sym (a .listsBytes)) refl (d .found) (d .whole) whole
+
+      pub gate-end : end ≤ length order
+      gate-end = d .inside
+
+      -- the new A at its front, and what reading it gives
+      reads : section (limits .gate) t ≡ unless (listRefusal (limits .gate) l′) (reading l′ (listBytes (o .own)))
+      reads = ap (section (limits .gate)) bytes-are ∙ section-back (limits .gate) l′ (listBytes (o .own)) (new-fits .rules) (new-fits .count)
+
+      pub gate-faulty : {r : Section} → SectionRead (limits .gate) t r → (f : Refusal) → r ≡ S.Fault f → editedOf limits s q ≡ refused (numberOf f)
+      unfolding sectionHeard
+      gate-faulty y f e = revised.revised-faulty a 0 place change new refl n gate-counted (d .found) (d .whole) (a .good .gate) _ (numberOf f) (sym reads ∙ sym (y .says) ∙ ap (sectionHeard t) e)
+
+      module _ {r : Section} (y : SectionRead (limits .gate) t r) (n′ next : ℕ) (e : r ≡ S.Rules n′ next) where
+        clean : (listRefusal (limits .gate) l′ ≡ 0) × (reading l′ (listBytes (o .own)) ≡ reading (rulesOf n′ t) (drop next t))
+        unfolding sectionHeard
+        clean = unless-accepted (listRefusal (limits .gate) l′) (sym reads ∙ sym (y .says) ∙ ap (sectionHeard t) e)
+
+        placed : SectionPlace (limits .gate) t n′ next
+        unfolding SectionPlaced
+        placed = rw e at (y .place)
+
+        rules-new : rulesOf n′ t ≡ l′
+        rules-new = λ i. sym (clean .1) i .value
+
+        count-is : n′ ≡ length l′
+        count-is = sym (rulesIn-length n′ (drop countSize t)) ∙ ap length rules-new
+
+        own-new : rulesOf m (drop (listSize n′) t) ≡ o .own
+        own-new =
+            let e : drop next t ≡ listBytes (o .own) = λ i. sym (clean .1) i .rest in
+            ap (λ (j : ℕ). rulesOf m (drop j t)) (sym (placed .end)) ∙ ap (rulesOf m) e ∙ ap (λ (j : ℕ). rulesOf j (listBytes (o .own))) (sym own-counted) ∙ list-rules (o .own) (own-fits .rules)
+
+        lists-new : listsOf n′ m (listSize n′) t ≡ o′
+        lists-new = rw (rules-new, own-new)
+
+        long-is : length t ≡ listSize n′ + listSize m
+        long-is = ap length bytes-are ∙ length-append (listBytes l′) (listBytes (o .own)) ∙ omega (arith, listBytes-length l′ (new-fits .rules), count-is, listBytes-length (o .own) (own-fits .rules), own-counted)
+
+        order-read : OrderRead t (Parts n′ m (listSize n′))
+        unfolding orderHeard OrderPlaced orderBytes
+        order-read = record {
+          says = rw lists-new (sym (ap (orderIn limits) bytes-are ∙ order-again limits o′ (omega arith) (omega arith) (clean .0) (a .good .own)));
+          place = record { gateEnd = refl; ownEnd = long-is; inside = omega arith; gateLimit = placed .limit; ownLimit = a .place .lists .ownLimit };
+        }
+
+        there : place + out k ≤ length (o .gate)
+        there = omega (arith, taken-is change new, d .found, gate-counted)
+
+        pub gate-places : (listSize n′ ≤ length t) × (place + takenBy change ≤ n) × (place + putBy change ≤ n′)
+        gate-places = (omega (arith, long-is), d .found, omega (arith, count-is, changed-length place k (o .gate) there, taken-is change new, put-is change new, there))
+
+        abbrev v : Around
+        v = aroundOf place change (rulesOf n s) (rulesOf n′ t)
+
+        -- where the groups come from, and that they are those of the edit
+        slots-are : slotsAround v (drop (third + countSize) s) (drop countSize t) ≡ newSlots (editOf q) p
+        slots-are = rw rules-new (gate-slots place change new (o .gate) there (drop (third + countSize) s) (drop countSize t) n′ rules-new)
+
+        slots-placed : Placed v n′
+        slots-placed = rw rules-new (gate-placed place change new (o .gate) there (drop (third + countSize) s) (drop countSize t) n′ rules-new (placed .limit))
+
+        slots-counted : length (newSlots (editOf q) p) ≡ denies (rulesOf n′ t)
+        slots-counted =
+            let g : List Rule = o .gate in
+            let c : length (p .groups) ≡ denies (front place g ++ (gone place k g ++ back place k g)) = rw (three-parts place (out k) g) (a .good .counted) in
+            rw rules-new (around-length (λ (x : Region). x ∷ []) (front place g) (gone place k g) (put k) (back place k g) (p .groups) c)
+
+        edited-is : editedOf limits s q ≡ slotted (listsOf n′ m (listSize n′) t) (slotsAround v (drop (third + countSize) s) (drop countSize t))
+        edited-is =
+            revised.revised-slotted a 0 place change new refl n gate-counted (d .found) (d .whole) (a .good .gate) (clean .0)
+            ∙ rw (lists-new, slots-are)
+
+        module _ (sheet : List ℕ) (used : ℕ) (is : s ≡ take used sheet) (inside : used ≤ length sheet) (v′ : Around) (same : v′ ≡ v) where
+          start-inside : third + countSize ≤ used
+          start-inside = omega (arith, ap length is, length-take-le used sheet inside, lists-long .3)
+
+          groups-are : partOf (third + countSize) used sheet ≡ drop (third + countSize) s
+          groups-are = part-is (third + countSize) used sheet start-inside inside ∙ ap (drop (third + countSize)) (sym is)
+
+          pub gate-finishing : {w : List ℕ} → pairSize limits ≤ length sheet → workSize limits ≤ length w → Finishing sheet used (third + countSize) t n′ m v′ w
+          unfolding aroundOf
+          gate-finishing {w} h j =
+              subst (λ (x : Around). Finishing sheet used (third + countSize) t n′ m x w) (sym same)
+              (record {
+                reads = order-read;
+                held = rw groups-are groups-held;
+                placed = slots-placed;
+                counted = rw groups-are (ap length slots-are ∙ slots-counted);
+                start = start-inside;
+                end = inside;
+                sheetRoom = h;
+                workRoom = j;
+              })
+
+          pub gate-done : {w w′ sheet′ : List ℕ} {r : Answer}
+              → Writes pairBytes (pairSize limits) (slotted (listsOf n′ m (listSize n′) t) (slotsAround v′ (partOf (third + countSize) used sheet) (drop countSize t))) sheet w r sheet′ w′
+              → Revised sheet used q w r sheet′ w′
+          gate-done x =
+              let e : slotted (listsOf n′ m (listSize n′) t) (slotsAround v′ (partOf (third + countSize) used sheet) (drop countSize t)) ≡ editedOf limits (take used sheet) q =
+              rw (same, groups-are) (sym edited-is ∙ ap (λ (z : List ℕ). editedOf limits z q) is) in
+              rw e at x
