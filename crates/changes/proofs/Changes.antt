@@ -40,6 +40,11 @@ put-is Insert s = refl
 put-is Delete s = refl
 put-is Replace s = refl
 
+pub few : (c : Change) → (takenBy c ≤ 1) × (putBy c ≤ 1)
+few Insert = (omega arith, omega arith)
+few Delete = (omega arith, omega arith)
+few Replace = (omega arith, omega arith)
+
 record-put : (s : List ℕ) → length s ≡ recordSize → Each Byte s → take recordSize s ≡ recordBytes (ruleIn s) ++ []
 record-put s l b = sym (append-none (recordBytes (ruleIn s)) ∙ record-written-back s (omega arith) b)
 
@@ -57,8 +62,8 @@ put-long Replace s w = omega (arith, eqb-true (length s) recordSize w)
 pub changed-length : (i : ℕ) (k : Kind) (l : List Rule) → i + out k ≤ length l → length (changed i k l) ≡ length l - out k + length (put k)
 changed-length i k l h = rw (length-append, length-append, length-take, length-drop, length-drop) (omega arith)
 
-module _ (s : List ℕ) (start count place : ℕ) (change : Change) (new out₀ : List ℕ) {taken : ℕ} (taking : taken ≡ takenBy change) (some : taken ≤ count) where
-  pub changed-no-place : count - taken < place → ListChanged (changedBytes s start count place change new) out₀ (Refused NoPlace) out₀
+module _ (s : List ℕ) (count place : ℕ) (change : Change) (new out₀ : List ℕ) {taken : ℕ} (taking : taken ≡ takenBy change) (some : taken ≤ count) where
+  pub changed-no-place : count - taken < place → ListChanged (changedBytes s count place change new) out₀ (Refused NoPlace) out₀
   unfolding changedBytes overlaid lengthOf
   changed-no-place h =
       let f = lt-leb (place + takenBy change) count (omega arith) in
@@ -68,24 +73,24 @@ module _ (s : List ℕ) (start count place : ℕ) (change : Change) (new out₀ 
     there : leb (place + takenBy change) count ≡ true
     there = le-leb (place + takenBy change) count (omega arith)
 
-    pub changed-short : wholeRecord change new ≡ false → ListChanged (changedBytes s start count place change new) out₀ (Refused LengthWrong) out₀
+    pub changed-short : wholeRecord change new ≡ false → ListChanged (changedBytes s count place change new) out₀ (Refused LengthWrong) out₀
     unfolding changedBytes overlaid lengthOf
     changed-short h = record { answer = rw (there, h); result = rw (there, h) }
 
     pub changed-done : wholeRecord change new ≡ true → {put r : ℕ} {out₁ : List ℕ} → put ≡ putBy change
-        → r ≡ length (spliced s start (count - taken + put) place taken (take (recordSize * put) new))
-        → out₁ ≡ sets out₀ 0 (spliced s start (count - taken + put) place taken (take (recordSize * put) new))
-        → ListChanged (changedBytes s start count place change new) out₀ (Length r) out₁
+        → r ≡ length (spliced s (count - taken + put) place taken (take (recordSize * put) new))
+        → out₁ ≡ sets out₀ 0 (spliced s (count - taken + put) place taken (take (recordSize * put) new))
+        → ListChanged (changedBytes s count place change new) out₀ (Length r) out₁
     unfolding changedBytes overlaid lengthOf
     changed-done h ep er eo = record { answer = rw (there, h, er, ep, taking); result = rw (there, h, eo, ep, taking) }
 
 -- A refused change leaves the buffer alone, and whatever stands behind the two tests is refused with its number.
-pub change-refused : {A : Type 0} (x : Outcome A) (s : List ℕ) (start count place : ℕ) (change : Change) (new : List ℕ) {out out′ : List ℕ} (f : Refusal)
-    → ListChanged (changedBytes s start count place change new) out (Refused f) out′
+pub change-refused : {A : Type 0} (x : Outcome A) (s : List ℕ) (count place : ℕ) (change : Change) (new : List ℕ) {out out′ : List ℕ} (f : Refusal)
+    → ListChanged (changedBytes s count place change new) out (Refused f) out′
     → (test (leb (place + takenBy change) count) 9 (test (wholeRecord change new) 3 x) ≡ refused (numberOf f)) × (out′ ≡ out)
 unfolding changedBytes lengthOf overlaid
-change-refused x s start count place change new {out} {out′} f c =
-    go (leb (place + takenBy change) count) (wholeRecord change new) (newBytes s start count place change new) (c .answer) (c .result)
+change-refused x s count place change new {out} {out′} f c =
+    go (leb (place + takenBy change) count) (wholeRecord change new) (newBytes s count place change new) (c .answer) (c .result)
   where
     go : (b w : Bool) (y : List ℕ) → refused (numberOf f) ≡ lengthOf (λ (t : List ℕ). t) (test b 9 (test w 3 (accepted y))) → out′ ≡ overlaid out (test b 9 (test w 3 (accepted y)))
         → (test b 9 (test w 3 x) ≡ refused (numberOf f)) × (out′ ≡ out)
@@ -94,65 +99,59 @@ change-refused x s start count place change new {out} {out′} f c =
     go false w y e r = (let z : numberOf f ≡ 9 = cc in rw z, r)
 
 -- What an accepted change gives: both tests passed, and the new bytes stand at the front of the buffer.
-pub record ChangeDone (s : List ℕ) (start count place : ℕ) (change : Change) (new out out′ : List ℕ) (end : ℕ) : Type 0 where
+pub record ChangeDone (s : List ℕ) (count place : ℕ) (change : Change) (new out out′ : List ℕ) (end : ℕ) : Type 0 where
   pub found : place + takenBy change ≤ count
   pub whole : wholeRecord change new ≡ true
-  pub long : end ≡ length (newBytes s start count place change new)
+  pub long : end ≡ length (newBytes s count place change new)
   pub inside : end ≤ length out
   pub short : end ≤ length s + recordSize
-  pub result : out′ ≡ sets out 0 (newBytes s start count place change new)
-  pub bytes : take end out′ ≡ newBytes s start count place change new
+  pub result : out′ ≡ sets out 0 (newBytes s count place change new)
+  pub bytes : take end out′ ≡ newBytes s count place change new
 
-spliced-length : (s : List ℕ) (start count place out : ℕ) (new : List ℕ) → start + countSize + recordSize * place + recordSize * out ≤ length s
-    → length (spliced s start count place out new) + recordSize * out ≡ length s + length new
+spliced-length : (s : List ℕ) (count place out : ℕ) (new : List ℕ) → countSize + recordSize * place + recordSize * out ≤ length s
+    → length (spliced s count place out new) + recordSize * out ≡ length s + length new
 unfolding spliced
-spliced-length s start count place out new h =
-    let a : length (take start s) ≡ start = length-take-le start s (omega arith) in
+spliced-length s count place out new h =
     let b = numberBytes-length countSize count in
-    let c : length (take (recordSize * place) (drop (start + countSize) s)) ≡ recordSize * place = length-take-le (recordSize * place) (drop (start + countSize) s) (rw length-drop (omega arith)) in
-    rw (length-append, length-append, length-append, length-append, length-drop, a, b, c) (omega arith)
+    let c : length (take (recordSize * place) (drop countSize s)) ≡ recordSize * place = length-take-le (recordSize * place) (drop countSize s) (rw length-drop (omega arith)) in
+    rw (length-append, length-append, length-append, length-drop, b, c) (omega arith)
 
-pub change-done : (s : List ℕ) (start count place : ℕ) (change : Change) (new : List ℕ) {out out′ : List ℕ} {end : ℕ}
-    → start + listSize count ≤ length s → length s + recordSize ≤ length out
-    → ListChanged (changedBytes s start count place change new) out (Length end) out′ → ChangeDone s start count place change new out out′ end
+pub change-done : (s : List ℕ) (count place : ℕ) (change : Change) (new : List ℕ) {out out′ : List ℕ} {end : ℕ}
+    → listSize count ≤ length s → length s + recordSize ≤ length out
+    → ListChanged (changedBytes s count place change new) out (Length end) out′ → ChangeDone s count place change new out out′ end
 unfolding changedBytes lengthOf overlaid
-change-done s start count place change new {out} {out′} {end} there roomy c =
-    let y : List ℕ = newBytes s start count place change new in
+change-done s count place change new {out} {out′} {end} there roomy c =
+    let y : List ℕ = newBytes s count place change new in
     let t = go (leb (place + takenBy change) count) (wholeRecord change new) y (c .answer) (c .result) in
     let f : place + takenBy change ≤ count = leb-true _ _ (t .0) in
     let p : length (take (recordSize * putBy change) new) ≡ recordSize * putBy change = length-take-le (recordSize * putBy change) new (put-long change new (t .1)) in
-    let l = spliced-length s start (count - takenBy change + putBy change) place (takenBy change) (take (recordSize * putBy change) new) (omega arith) in
-    let fits : length y ≤ length out = omega (arith, put-few change) in
+    let l = spliced-length s (count - takenBy change + putBy change) place (takenBy change) (take (recordSize * putBy change) new) (omega arith) in
+    let fits : length y ≤ length out = omega (arith, few change .1) in
     let z : 0 + length y ≡ end = omega (arith, t .2) in
     record {
       found = f;
       whole = t .1;
       long = t .2;
       inside = omega arith;
-      short = omega (arith, t .2, put-few change);
+      short = omega (arith, t .2, few change .1);
       result = t .3;
       bytes = rw (t .3, sets-eq y out 0 (omega arith), z) (take-at y (drop end out) end (sym (t .2)));
     }
   where
-    put-few : (c : Change) → putBy c ≤ 1
-    put-few Insert = omega arith
-    put-few Delete = omega arith
-    put-few Replace = omega arith
-
     go : (b w : Bool) (y : List ℕ) → accepted end ≡ lengthOf (λ (t : List ℕ). t) (test b 9 (test w 3 (accepted y))) → out′ ≡ overlaid out (test b 9 (test w 3 (accepted y)))
         → (b ≡ true) × (w ≡ true) × (end ≡ length y) × (out′ ≡ sets out 0 y)
     go true true y e r = (refl, refl, cc, r)
     go true false y e r = let z : _≡_ {A = ℕ} 0 1 = cc in absurd (omega arith)
     go false w y e r = let z : _≡_ {A = ℕ} 0 1 = cc in absurd (omega arith)
 
--- The bytes of a list changed between what stands before it and behind it.
-pub list-spliced : (x y s new : List ℕ) (l : List Rule) (start count place : ℕ) (change : Change) → Each RuleFits l → length l ≡ count
-    → s ≡ x ++ (listBytes l ++ y) → length x ≡ start → place + takenBy change ≤ count → wholeRecord change new ≡ true → Each Byte new
-    → newBytes s start count place change new ≡ x ++ (listBytes (changed place (kindOf change new) l) ++ y)
-list-spliced x y s new l start count place change fits counted is before found w b =
+-- The bytes of a list changed, and what stands behind it.
+pub list-spliced : (y s new : List ℕ) (l : List Rule) (count place : ℕ) (change : Change) → Each RuleFits l → length l ≡ count
+    → s ≡ listBytes l ++ y → place + takenBy change ≤ count → wholeRecord change new ≡ true → Each Byte new
+    → newBytes s count place change new ≡ listBytes (changed place (kindOf change new) l) ++ y
+list-spliced y s new l count place change fits counted is found w b =
     let k : Kind = kindOf change new in
     let t = taken-is change new in
     let p = put-is change new in
     let h : place + out k ≤ length l = omega arith in
     let c = changed-length place k l h in
-    rw (← t) (section-spliced x y (take (recordSize * putBy change) new) l place k s start (count - out k + putBy change) fits h is before (put-bytes-are change new w b) (omega arith))
+    rw (← t) (section-spliced y (take (recordSize * putBy change) new) l place k s (count - out k + putBy change) fits h is (put-bytes-are change new w b) (omega arith))

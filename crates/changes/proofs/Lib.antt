@@ -1,3 +1,4 @@
 pub mod Splices
 pub mod Changes
+pub mod Puts
 pub mod Touched

@@ -21,24 +21,23 @@ takenBy c = out (kindOf c [])
 abbrev pub putBy : Change → ℕ
 putBy c = length (put (kindOf c []))
 
--- Bytes with the list at `start` changed: what stands before it, its new count, its records before the place, the bytes put in,
--- and all that stands behind the records taken out.
-unfoldable pub spliced : List ℕ → ℕ → ℕ → ℕ → ℕ → List ℕ → List ℕ
-spliced s start count place out new =
-    take start s
-    ++ (numberBytes countSize count
-    ++ (take (recordSize * place) (drop (start + countSize) s)
-    ++ (new ++ drop (start + countSize + recordSize * place + recordSize * out) s)))
+-- Bytes that begin with a list, with that list changed: its new count, its records before the place, the bytes put in, and all
+-- that stands behind the records taken out.
+unfoldable pub spliced : List ℕ → ℕ → ℕ → ℕ → List ℕ → List ℕ
+spliced s count place out new =
+    numberBytes countSize count
+    ++ (take (recordSize * place) (drop countSize s)
+    ++ (new ++ drop (countSize + recordSize * place + recordSize * out) s))
 
 -- The same for a list of `count` rules and a change, whose record is the bytes given.
-abbrev pub newBytes : List ℕ → ℕ → ℕ → ℕ → Change → List ℕ → List ℕ
-newBytes s start count place c new =
-    spliced s start (count - takenBy c + putBy c) place (takenBy c) (take (recordSize * putBy c) new)
+abbrev pub newBytes : List ℕ → ℕ → ℕ → Change → List ℕ → List ℕ
+newBytes s count place c new =
+    spliced s (count - takenBy c + putBy c) place (takenBy c) (take (recordSize * putBy c) new)
 
 -- 9, then 3 for the record's length; then the bytes.
-unfoldable pub changedBytes : List ℕ → ℕ → ℕ → ℕ → Change → List ℕ → Outcome (List ℕ)
-changedBytes s start count place c new =
-    test (leb (place + takenBy c) count) 9 (test (wholeRecord c new) 3 (accepted (newBytes s start count place c new)))
+unfoldable pub changedBytes : List ℕ → ℕ → ℕ → Change → List ℕ → Outcome (List ℕ)
+changedBytes s count place c new =
+    test (leb (place + takenBy c) count) 9 (test (wholeRecord c new) 3 (accepted (newBytes s count place c new)))
 
 -- Bytes at the front of a buffer, or nothing.
 unfoldable pub overlaid : List ℕ → Outcome (List ℕ) → List ℕ

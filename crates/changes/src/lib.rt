@@ -5,16 +5,20 @@ use policy::Answer;
 use policy::COUNT_BYTES;
 use policy::RECORD_BYTES;
 use policy::Refusal;
+use sheet::PAIR_BYTES;
 ghost use mathlib.Core.Path.{_≡_};
 ghost use Prim.Native.Nat.{_+_, _*_, _≤_, _<_};
-ghost use lib.ListN.{length, drop};
+ghost use lib.ListN.{length, take, drop};
 ghost use lib.Seq.{sets};
 ghost use Rattle.policy.specs.Fields.{countSize, recordSize, limits};
 ghost use Rattle.policy.specs.Rules.{anyAllow};
+ghost use Rattle.wire.specs.Buffers.{filled};
 ghost use Rattle.wire.specs.Lists.{listSize};
+ghost use Rattle.sheet.specs.Pairs.{pairSize};
 ghost use Rattle.sheet.specs.Readers.{rulesOf};
 ghost use Rattle.planner.specs.Edits.{wholeRecord};
 ghost use Rattle.changes.specs.Changes.{takenBy, putBy, spliced, changedBytes, ListChanged};
+ghost use Rattle.changes.specs.Puts.{movedTo, RoomReady, withList, PutReady};
 ghost use Rattle.changes.specs.Drafts.{aroundOf};
 
 // How many rules a change takes out at its place, and how many it puts in.
@@ -49,42 +53,31 @@ fn is_whole(change: Change, new: &[u8]) -> bool
     }
 }
 
-// The bytes with the list at `start` changed, at the front of the buffer; their length.
-fn splice(
-    out: &mut [u8],
-    s: &[u8],
-    start: usize,
-    count: usize,
-    place: usize,
-    taken: usize,
-    new: &[u8],
-) -> usize
-    requires { ⌜ (count < 65536) × (start + countSize + recordSize * place + recordSize * taken ≤ length (now s)) × (length (now s) + length (now new) ≤ length (now out)) ⌝ }
-    ensures { λ r. ⌜ (r ≡ length (spliced (now (s .entry)) start count place taken (now (new .entry)))) × (now (out .exit) ≡ sets (now (out .entry)) 0 (spliced (now (s .entry)) start count place taken (now (new .entry)))) ⌝ }
+// The bytes, which begin with a list, with that list changed, at the front of the buffer; their length.
+fn splice(out: &mut [u8], s: &[u8], count: usize, place: usize, taken: usize, new: &[u8]) -> usize
+    requires { ⌜ (count < 65536) × (countSize + recordSize * place + recordSize * taken ≤ length (now s)) × (length (now s) + length (now new) ≤ length (now out)) ⌝ }
+    ensures { λ r. ⌜ (r ≡ length (spliced (now (s .entry)) count place taken (now (new .entry)))) × (now (out .exit) ≡ sets (now (out .entry)) 0 (spliced (now (s .entry)) count place taken (now (new .entry)))) ⌝ }
 {
-    let first = start + COUNT_BYTES;
-    let from = first + RECORD_BYTES * place;
+    let from = COUNT_BYTES + RECORD_BYTES * place;
     let next = from + RECORD_BYTES * taken;
-    wire::put_bytes(out, 0, &s[..start]);
-    wire::put_count(out, start, count);
-    wire::put_bytes(out, first, &s[first..from]);
+    wire::put_count(out, 0, count);
+    wire::put_bytes(out, COUNT_BYTES, &s[COUNT_BYTES..from]);
     let end = wire::put_bytes(out, from, new);
     wire::put_bytes(out, end, &s[next..])
 }
 
-// The bytes with the list of `count` rules at `start` changed, at the front of the buffer, and their length; or 9, or 3 for the
-// record.
+// The bytes, which begin with a list of `count` rules, with that list changed, at the front of the buffer, and their length; or 9,
+// or 3 for the record.
 pub fn change_list(
     s: &[u8],
-    start: usize,
     count: usize,
     place: usize,
     change: Change,
     new: &[u8],
     out: &mut [u8],
 ) -> Answer
-    requires { ⌜ (1 ≤ count) × (count ≤ limits .own) × (start + listSize count ≤ length (now s)) × (length (now s) + recordSize ≤ length (now out)) ⌝ }
-    ensures { λ r. ⌜ ListChanged (changedBytes (now (s .entry)) start count place change (now (new .entry))) (now (out .entry)) r (now (out .exit)) ⌝ }
+    requires { ⌜ (1 ≤ count) × (count ≤ limits .own) × (listSize count ≤ length (now s)) × (length (now s) + recordSize ≤ length (now out)) ⌝ }
+    ensures { λ r. ⌜ ListChanged (changedBytes (now (s .entry)) count place change (now (new .entry))) (now (out .entry)) r (now (out .exit)) ⌝ }
 {
     let taken = taken_by(change);
     let left = count - taken;
@@ -96,7 +89,45 @@ pub fn change_list(
     }
     let put = put_by(change);
     let size = RECORD_BYTES * put;
-    Answer::Length(splice(out, s, start, left + put, place, taken, &new[..size]))
+    Answer::Length(splice(out, s, left + put, place, taken, &new[..size]))
+}
+
+// What stands behind a list, so many bytes from `next` on, moved to where the changed list ends. One record more or less is a
+// distance that the compiler knows, so that it moves the bytes in one go.
+fn make_room(sheet: &mut [u8], next: usize, behind: usize, count: usize, renewed: usize)
+    requires { ⌜ RoomReady (now sheet) next behind count renewed ⌝ }
+    ensures { λ r. ⌜ now (sheet .exit) ≡ sets (now (sheet .entry)) (movedTo next count renewed) (take behind (drop next (now (sheet .entry)))) ⌝ }
+{
+    if count < renewed {
+        wire::copy_up(&mut sheet[next..], RECORD_BYTES, behind);
+        return;
+    }
+    if renewed < count {
+        wire::copy_down(&mut sheet[next - RECORD_BYTES..], RECORD_BYTES, 0, behind);
+        return;
+    }
+}
+
+// The changed list put in the place of the one of `count` rules at `start`, what stands behind that up to `used` moved along, and
+// zeros behind it; where it ends.
+pub fn put_list(
+    sheet: &mut [u8],
+    start: usize,
+    count: usize,
+    used: usize,
+    list: &[u8],
+    renewed: usize,
+) -> usize
+    requires { ⌜ PutReady (now sheet) start count used (now list) renewed ⌝ }
+    ensures { λ r. ⌜ (r ≡ length (withList (now (sheet .entry)) start count used (now (list .entry)))) × (now (sheet .exit) ≡ filled (pairSize limits) (now (sheet .entry)) (withList (now (sheet .entry)) start count used (now (list .entry)))) ⌝ }
+{
+    let next = start + (COUNT_BYTES + RECORD_BYTES * count);
+    let behind = used - next;
+    make_room(sheet, next, behind, count, renewed);
+    let end = wire::put_bytes(sheet, start, list);
+    let last = end + behind;
+    wire::zero(sheet, last, PAIR_BYTES);
+    last
 }
 
 // Whether an allow is among n rules of a list from a place on, where n is 0 or 1.

@@ -1,10 +1,10 @@
 -- An edit of A, once the pair sheet is read and the new order sheet made. Assumes nothing.
 use mathlib.Core.Path.{_≡_, refl, ap, sym, subst, _∙_}
 use mathlib.Core.List.{List, [], _∷_, _++_}
-use Prim.Native.Nat.{ℕ, _+_, _-_, _≤_}
+use Prim.Native.Nat.{ℕ, _+_, _≤_}
 use native.Mathlib.Omega.{arith}
 use lib.ListN.{length, take, drop, length-append}
-use lib.Seq.{drop-at, take-add, take-all, length-take-le}
+use lib.Seq.{take-all, length-take-le}
 use Rattle.lists.specs.Lists.{Each}
 use Rattle.lists.proofs.Lists.{three-parts}
 use Rattle.policy.specs.Fields.{countSize, recordSize, limits}
@@ -47,13 +47,6 @@ use Rattle.editing.specs.Edits.{Revised}
 use Rattle.editing.proofs.Slots.{around-length, gate-slots, gate-placed}
 use Rattle.editing.proofs.Revised as revised
 
--- a part of the sheet is the end of what is used of it
-part-is : (from used : ℕ) (sheet : List ℕ) → from ≤ used → used ≤ length sheet → partOf from used sheet ≡ drop from (take used sheet)
-part-is from used sheet h k =
-    let e : used ≡ from + (used - from) = omega arith in
-    sym (ap (λ (n : ℕ). drop from (take n sheet)) e ∙ ap (drop from) (take-add from (used - from) sheet)
-    ∙ drop-at (take from sheet) (take (used - from) (drop from sheet)) from (length-take-le from sheet (omega arith)))
-
 module _ {s : List ℕ} {n m middle third boxes : ℕ} (a : PairAccepted s n m middle third boxes) where
   abbrev p : Pair
   p = pairOf n m middle third s
@@ -65,7 +58,7 @@ module _ {s : List ℕ} {n m middle third boxes : ℕ} (a : PairAccepted s n m m
   gate-inside = omega (arith, a .place .lists .gateEnd, a .place .lists .ownEnd, a .place .lists .inside)
 
   -- the lists' bytes, which the new order sheet is made of
-  pub lists-long : (length (take third s) ≡ third) × (0 + listSize n ≤ length (take third s)) × (third ≤ orderSize limits) × (third + countSize ≤ length s)
+  pub lists-long : (length (take third s) ≡ third) × (listSize n ≤ length (take third s)) × (third ≤ orderSize limits) × (third + countSize ≤ length s)
   lists-long =
       let l : length (take third s) ≡ third = length-take-le third s (a .place .lists .inside) in
       let g = a .place .lists .gateEnd in
@@ -111,12 +104,12 @@ module _ {s : List ℕ} {n m middle third boxes : ℕ} (a : PairAccepted s n m m
     abbrev o′ : Order
     o′ = newOrder (editOf q) o
 
-    pub gate-refused : {order order′ : List ℕ} (f : Refusal) → ListChanged (changedBytes (take third s) 0 n place change new) order (Refused f) order′ → editedOf limits s q ≡ refused (numberOf f)
-    gate-refused f x = revised.revised-refused a 0 place change new refl n gate-counted (take third s) 0 f x
+    pub gate-refused : {order order′ : List ℕ} (f : Refusal) → ListChanged (changedBytes (take third s) n place change new) order (Refused f) order′ → editedOf limits s q ≡ refused (numberOf f)
+    gate-refused f x = revised.revised-refused a 0 place change new refl n gate-counted (take third s) f x
 
-    module _ {order order′ : List ℕ} {end : ℕ} (x : ListChanged (changedBytes (take third s) 0 n place change new) order (Length end) order′) (roomy : orderSize limits + recordSize ≤ length order) where
-      d : ChangeDone (take third s) 0 n place change new order order′ end
-      d = let l = lists-long in change-done (take third s) 0 n place change new (l .1) (omega (arith, l .0, l .2)) x
+    module _ {order order′ : List ℕ} {end : ℕ} (x : ListChanged (changedBytes (take third s) n place change new) order (Length end) order′) (roomy : orderSize limits + recordSize ≤ length order) where
+      d : ChangeDone (take third s) n place change new order order′ end
+      d = let l = lists-long in change-done (take third s) n place change new (l .1) (omega (arith, l .0, l .2)) x
 
       abbrev t : List ℕ
       t = take end order′
@@ -127,7 +120,7 @@ module _ {s : List ℕ} {n m middle third boxes : ℕ} (a : PairAccepted s n m m
       -- the new order sheet is that of the new lists
       bytes-are : t ≡ listBytes l′ ++ listBytes (o .own)
       unfolding orderBytes
-      bytes-are = d .bytes ∙ list-spliced [] (listBytes (o .own)) (take third s) new (o .gate) 0 n place change (gate-fits .rules) gate-counted (sym (a .listsBytes)) refl (d .found) (d .whole) whole
+      bytes-are = d .bytes ∙ list-spliced (listBytes (o .own)) (take third s) new (o .gate) n place change (gate-fits .rules) gate-counted (sym (a .listsBytes)) (d .found) (d .whole) whole
 
       pub gate-end : end ≤ length order
       gate-end = d .inside
@@ -205,7 +198,7 @@ module _ {s : List ℕ} {n m middle third boxes : ℕ} (a : PairAccepted s n m m
           start-inside = omega (arith, ap length is, length-take-le used sheet inside, lists-long .3)
 
           groups-are : partOf (third + countSize) used sheet ≡ drop (third + countSize) s
-          groups-are = part-is (third + countSize) used sheet start-inside inside ∙ ap (drop (third + countSize)) (sym is)
+          groups-are = revised.part-is (third + countSize) used sheet start-inside inside ∙ ap (drop (third + countSize)) (sym is)
 
           pub gate-finishing : {w : List ℕ} → pairSize limits ≤ length sheet → workSize limits ≤ length w → Finishing sheet used (third + countSize) t n′ m v′ w
           unfolding aroundOf

@@ -1,15 +1,16 @@
--- An edit of B, once the pair sheet is read and the new one made in the work buffer. Assumes nothing.
+-- An edit of B, once the pair sheet is read and the new B made in the work buffer. Assumes nothing.
 use mathlib.Core.Path.{_≡_, refl, ap, sym, _∙_}
-use mathlib.Core.List.{List, _++_, append-assoc}
-use Prim.Native.Nat.{ℕ, _+_, _-_, _≤_, _<_}
+use mathlib.Core.List.{List, [], _++_, append-assoc}
+use Prim.Native.Nat.{ℕ, _+_, _*_, _-_, _≤_, _<_}
 use native.Mathlib.Omega.{arith}
 use lib.Dec.{ltb}
-use lib.ListN.{length, take, drop, length-append, length-take, take-append-drop}
-use lib.Seq.{take-add, drop-at, length-take-le}
+use lib.ListN.{length, take, drop, take-append-drop}
+use lib.Seq.{take-at, drop-at, length-take-le}
 use borrow.Author.Tests.{lt-ltb, le-ltb}
 use Rattle.lists.specs.Lists.{Each}
-use Rattle.policy.specs.Fields.{countSize, recordSize, limits}
-use Rattle.policy.specs.Rules.{Rule}
+use Rattle.lists.proofs.Lists.{append-none, drop-sets}
+use Rattle.policy.specs.Fields.{boxSize, countSize, limits}
+use Rattle.policy.specs.Rules.{Rule, denies}
 use Rattle.policy.specs.Refusals.{accepted, refused, unless, given, numberOf}
 use Rattle.policy.specs.Move.{room, work, Order, Pair, listRefusal}
 use Rattle.policy.specs.Edit.{changed, newOrder}
@@ -23,28 +24,23 @@ use Rattle.wire.specs.Buffers.{filled, written, lengthOf}
 use Rattle.wire.proofs.Records.{rulesIn-length}
 use Rattle.wire.proofs.Lists.{listBytes-length}
 use Rattle.groups.specs.Worked.{workSize}
-use Rattle.groups.proofs.Stores.{drop-sets}
-use Rattle.sheet.specs.Orders.{orderBytes}
-use Rattle.sheet.specs.Sections.{reading, section}
+use Rattle.sheet.specs.Orders.{orderBytes, gateSize, listIn}
 use Rattle.sheet.specs.Pairs.{pairBytes, pairSize}
-use Rattle.sheet.specs.Readers.{rulesOf, sectionHeard, SectionRead, pairOf}
-use Rattle.sheet.specs.declared.Section.{Section}
-use Rattle.sheet.specs.declared.Section.the-variants as S
+use Rattle.sheet.specs.Readers.{rulesOf, pairOf}
 use Rattle.sheet.proofs.Outcomes.{faultless}
-use Rattle.sheet.proofs.Sections.{section-back}
-use Rattle.sheet.proofs.Orders.{ListFits, faultless-fits}
-use Rattle.sheet.proofs.Pairs.{PairGood, denies-most}
-use Rattle.sheet.proofs.Accepted.{PairAccepted}
+use Rattle.sheet.proofs.Orders.{ListFits, faultless-fits, list-back}
+use Rattle.sheet.proofs.Pairs.{denies-most}
+use Rattle.sheet.proofs.Accepted.{PairAccepted, ListAccepted}
 use Rattle.planner.specs.Steps.{Writes, slotted}
 use Rattle.planner.specs.Edits.{Asked, asked, kindOf, editOf, editedOf}
 use Rattle.planner.specs.declared.Change.{Change}
 use Rattle.planner.proofs.Demands.{changed-fits}
-use Rattle.planner.proofs.Good.{pair-short}
-use Rattle.changes.specs.Changes.{changedBytes, newBytes, ListChanged}
-use Rattle.changes.proofs.Changes.{ChangeDone, change-refused, change-done, list-spliced}
+use Rattle.changes.specs.Changes.{takenBy, putBy, changedBytes, newBytes, ListChanged}
+use Rattle.changes.specs.Puts.{withList, PutReady}
+use Rattle.changes.proofs.Changes.{ChangeDone, change-refused, change-done, list-spliced, taken-is, put-is, few, changed-length}
 use Rattle.editing.proofs.Revised as revised
 
-module _ {s : List ℕ} {n m middle third boxes : ℕ} (a : PairAccepted s n m middle third boxes) where
+module _ {s : List ℕ} {n m middle third boxes : ℕ} (a : PairAccepted s n m middle third boxes) (sheet : List ℕ) (used : ℕ) (is : s ≡ take used sheet) (inside : used ≤ length sheet) where
   abbrev p : Pair
   p = pairOf n m middle third s
 
@@ -63,18 +59,48 @@ module _ {s : List ℕ} {n m middle third boxes : ℕ} (a : PairAccepted s n m m
   gate-long : length (listBytes (o .gate)) ≡ middle
   gate-long = omega (arith, listBytes-length (o .gate) (gate-fits .rules), rulesIn-length n (drop countSize s), a .place .lists .gateEnd)
 
-  pub own-some : (1 ≤ m) × (m ≤ limits .own)
-  own-some = (omega (arith, faultless (limits .own) (o .own) (a .good .own) .few, own-counted), a .place .lists .ownLimit)
+  own-long : length (listBytes (o .own)) ≡ listSize m
+  own-long = omega (arith, listBytes-length (o .own) (own-fits .rules), own-counted)
 
-  pub own-there : (middle + listSize m ≤ length s) × (third ≤ length s)
-  own-there = (omega (arith, a .place .lists .ownEnd, a .place .lists .inside), a .place .lists .inside)
+  long : length s ≡ used
+  long = ap length is ∙ length-take-le used sheet inside
 
-  pub sheet-short : length s + recordSize ≤ workSize limits
-  sheet-short = omega (arith, a .place .end, a .place .totalLimit, a .place .lists .gateEnd, a .place .lists .ownEnd, a .place .lists .gateLimit, a .place .lists .ownLimit, denies-most (o .gate), rulesIn-length n (drop countSize s))
+  pub own-there : (1 ≤ m) × (m ≤ limits .own) × (middle ≤ third) × (third ≤ length sheet)
+  own-there = (
+    omega (arith, faultless (limits .own) (o .own) (a .good .own) .few, own-counted),
+    a .place .lists .ownLimit,
+    omega (arith, a .place .lists .ownEnd),
+    omega (arith, a .place .lists .inside, long),
+  )
 
-  sheet-is : s ≡ listBytes (o .gate) ++ (listBytes (o .own) ++ drop third s)
+  -- the sheet's parts: A, B, section C, and what is behind them
+  sheet-is : sheet ≡ listBytes (o .gate) ++ (listBytes (o .own) ++ (drop third s ++ drop used sheet))
   unfolding orderBytes
-  sheet-is = sym (take-append-drop third s) ∙ ap (λ (x : List ℕ). x ++ drop third s) (sym (a .listsBytes)) ∙ append-assoc (listBytes (o .gate)) (listBytes (o .own)) (drop third s)
+  sheet-is =
+      sym (take-append-drop used sheet) ∙ ap (λ (x : List ℕ). x ++ drop used sheet) (sym is ∙ sym (take-append-drop third s) ∙ ap (λ (x : List ℕ). x ++ drop third s) (sym (a .listsBytes)))
+      ∙ append-assoc (listBytes (o .gate) ++ listBytes (o .own)) (drop third s) (drop used sheet) ∙ append-assoc (listBytes (o .gate)) (listBytes (o .own)) (drop third s ++ drop used sheet)
+
+  pub own-bytes : take (third - middle) (drop middle sheet) ≡ listBytes (o .own)
+  own-bytes =
+      ap (λ (x : List ℕ). take (third - middle) (drop middle x)) sheet-is
+      ∙ ap (take (third - middle)) (drop-at (listBytes (o .gate)) (listBytes (o .own) ++ (drop third s ++ drop used sheet)) middle gate-long)
+      ∙ take-at (listBytes (o .own)) (drop third s ++ drop used sheet) (third - middle) (omega (arith, own-long, a .place .lists .ownEnd))
+
+  pub own-size : length (take (third - middle) (drop middle sheet)) ≡ listSize m
+  own-size = ap length own-bytes ∙ own-long
+
+  front-is : take middle sheet ≡ listBytes (o .gate)
+  front-is = ap (take middle) sheet-is ∙ take-at (listBytes (o .gate)) (listBytes (o .own) ++ (drop third s ++ drop used sheet)) middle gate-long
+
+  -- what the sheet's size is, with as many boxes and other own rules
+  sheet-long : (middle + listSize m ≡ third) × (third ≤ used) × (used - third ≡ countSize + (countSize * denies (rulesOf n s) + boxSize * boxes)) × (middle ≤ gateSize limits) × (denies (rulesOf n s) ≤ limits .gate)
+  sheet-long = (
+    omega (arith, a .place .lists .ownEnd),
+    omega (arith, a .place .lists .inside, long),
+    omega (arith, a .place .end, long),
+    omega (arith, a .place .lists .gateEnd, a .place .lists .gateLimit),
+    omega (arith, denies-most (o .gate), rulesIn-length n (drop countSize s), a .place .lists .gateLimit),
+  )
 
   module _ (place : ℕ) (change : Change) (new : List ℕ) (whole : Each Byte new) where
     abbrev q : Asked
@@ -86,59 +112,47 @@ module _ {s : List ℕ} {n m middle third boxes : ℕ} (a : PairAccepted s n m m
     abbrev p′ : Pair
     p′ = record { order = newOrder (editOf q) o; groups = p .groups }
 
-    pub own-refused : {w w′ : List ℕ} (f : Refusal) → ListChanged (changedBytes s middle m place change new) w (Refused f) w′
+    pub own-refused : {w w′ : List ℕ} (f : Refusal) → ListChanged (changedBytes (listBytes (o .own)) m place change new) w (Refused f) w′
         → (editedOf limits s q ≡ refused (numberOf f)) × (drop (workSize limits) w′ ≡ drop (workSize limits) w)
     own-refused f x = (
-      revised.revised-refused a 1 place change new refl m own-counted s middle f x,
-      ap (drop (workSize limits)) (change-refused {A = ℕ} (accepted 0) s middle m place change new f x .1),
+      revised.revised-refused a 1 place change new refl m own-counted (listBytes (o .own)) f x,
+      ap (drop (workSize limits)) (change-refused {A = ℕ} (accepted 0) (listBytes (o .own)) m place change new f x .1),
     )
 
-    module _ {w w′ : List ℕ} {end : ℕ} (x : ListChanged (changedBytes s middle m place change new) w (Length end) w′) (roomy : workSize limits ≤ length w) where
-      d : ChangeDone s middle m place change new w w′ end
-      d = change-done s middle m place change new (own-there .0) (omega (arith, sheet-short)) x
+    module _ {w w′ : List ℕ} {end : ℕ} (x : ListChanged (changedBytes (listBytes (o .own)) m place change new) w (Length end) w′) (roomy : workSize limits ≤ length w) where
+      d : ChangeDone (listBytes (o .own)) m place change new w w′ end
+      d = change-done (listBytes (o .own)) m place change new (omega (arith, own-long)) (omega (arith, own-long, a .place .lists .ownLimit)) x
+
+      pub own-end : end ≤ length w
+      own-end = d .inside
 
       pub own-beyond : drop (workSize limits) w′ ≡ drop (workSize limits) w
-      own-beyond = ap (drop (workSize limits)) (d .result) ∙ drop-sets (workSize limits) w 0 (newBytes s middle m place change new) (omega (arith, d .long, d .short, sheet-short))
+      own-beyond = ap (drop (workSize limits)) (d .result) ∙ drop-sets (workSize limits) w 0 (newBytes (listBytes (o .own)) m place change new) (omega (arith, d .long, d .short, own-long, a .place .lists .ownLimit))
 
       new-fits : ListFits l′
       new-fits = changed-fits place change new (o .own) (d .whole) whole (own-fits .rules) (omega (arith, own-counted, a .place .lists .ownLimit))
 
-      -- the new pair sheet is the old one with the new B in it
-      bytes-are : take end w′ ≡ listBytes (o .gate) ++ (listBytes l′ ++ drop third s)
-      bytes-are = d .bytes ∙ list-spliced (listBytes (o .gate)) (drop third s) s new (o .own) middle m place change (own-fits .rules) own-counted sheet-is gate-long (d .found) (d .whole) whole
+      -- the new B, and what reading it gives
+      bytes-are : take end w′ ≡ listBytes l′
+      bytes-are =
+          d .bytes ∙ list-spliced [] (listBytes (o .own)) new (o .own) m place change (own-fits .rules) own-counted (sym (append-none (listBytes (o .own)))) (d .found) (d .whole) whole
+          ∙ append-none (listBytes l′)
 
-      pub own-end : (end ≤ length w) × (middle ≤ end)
-      own-end = (d .inside, omega (arith, d .long, ap length (sym (d .bytes) ∙ bytes-are), length-append (listBytes (o .gate)) (listBytes l′ ++ drop third s), gate-long))
+      reads : listIn (limits .own) (take end w′) ≡ unless (listRefusal (limits .own) l′) l′
+      reads = ap (listIn (limits .own)) bytes-are ∙ list-back (limits .own) l′ new-fits
 
-      -- the new B behind A, and what reading it gives
-      abbrev t : List ℕ
-      t = take (end - middle) (drop middle w′)
+      pub own-faulty : (f : Refusal) → listIn (limits .own) (take end w′) ≡ refused (numberOf f) → editedOf limits s q ≡ refused (numberOf f)
+      own-faulty f e = revised.revised-faulty a 1 place change new refl m own-counted (d .found) (d .whole) (a .good .own) l′ (numberOf f) (sym reads ∙ e)
 
-      part-is : t ≡ listBytes l′ ++ drop third s
-      part-is =
-          let e : middle + (end - middle) ≡ end = omega (arith, own-end .1) in
-          let l : length (take end w′) ≡ end = ap length (d .bytes) ∙ sym (d .long) in
-          sym (drop-at (take middle w′) t middle (length-take-le middle w′ (omega (arith, length-take end w′, own-end .1))))
-          ∙ ap (drop middle) (sym (take-add middle (end - middle) w′) ∙ ap (λ (j : ℕ). take j w′) e ∙ bytes-are)
-          ∙ drop-at (listBytes (o .gate)) (listBytes l′ ++ drop third s) middle gate-long
-
-      reads : section (limits .own) t ≡ unless (listRefusal (limits .own) l′) (reading l′ (drop third s))
-      reads = ap (section (limits .own)) part-is ∙ section-back (limits .own) l′ (drop third s) (new-fits .rules) (new-fits .count)
-
-      pub own-faulty : {r : Section} → SectionRead (limits .own) t r → (f : Refusal) → r ≡ S.Fault f → editedOf limits s q ≡ refused (numberOf f)
-      unfolding sectionHeard
-      own-faulty y f e = revised.revised-faulty a 1 place change new refl m own-counted (d .found) (d .whole) (a .good .own) _ (numberOf f) (sym reads ∙ sym (y .says) ∙ ap (sectionHeard t) e)
-
-      module _ {r : Section} (y : SectionRead (limits .own) t r) (m′ next : ℕ) (e : r ≡ S.Rules m′ next) where
-        clean : (listRefusal (limits .own) l′ ≡ 0) × (reading l′ (drop third s) ≡ reading (rulesOf m′ t) (drop next t))
-        unfolding sectionHeard
-        clean = unless-accepted (listRefusal (limits .own) l′) (sym reads ∙ sym (y .says) ∙ ap (sectionHeard t) e)
+      module _ {m′ next : ℕ} (b : ListAccepted (limits .own) (take end w′) m′ next) where
+        clean : (listRefusal (limits .own) l′ ≡ 0) × (l′ ≡ rulesOf m′ (take end w′))
+        clean = unless-accepted (listRefusal (limits .own) l′) (sym reads ∙ b .reads)
 
         count-is : length l′ ≡ m′
-        count-is = (λ i. length (clean .1 i .value)) ∙ rulesIn-length m′ (drop countSize t)
+        count-is = ap length (clean .1) ∙ rulesIn-length m′ (drop countSize (take end w′))
 
         pub own-few : m′ ≤ limits .own
-        own-few = omega (arith, faultless (limits .own) l′ (clean .0) .many, count-is)
+        own-few = b .place .limit
 
         -- no group is worked out anew, so that only 7 is left
         edited-is : editedOf limits s q ≡ unless (given (ltb (limits .total) (boxes + m′)) 7) p′
@@ -150,30 +164,39 @@ module _ {s : List ℕ} {n m middle third boxes : ℕ} (a : PairAccepted s n m m
         pub own-seven : limits .total < boxes + m′ → editedOf limits s q ≡ refused 7
         own-seven h = edited-is ∙ rw (lt-ltb (limits .total) (boxes + m′) h)
 
-        module _ (within : boxes + m′ ≤ limits .total) where
+        module _ (within : boxes + m′ ≤ limits .total) (roomIs : pairSize limits ≤ length sheet) where
           accepted-is : editedOf limits s q ≡ accepted p′
           accepted-is = edited-is ∙ rw (le-ltb (limits .total) (boxes + m′) within)
 
-          pair-is : take end w′ ≡ pairBytes p′
+          pub own-put : PutReady sheet middle m used (take end w′) m′
+          own-put =
+              let l = sheet-long in
+              let k = few change in
+              let c = changed-length place (kindOf change new) (o .own) (omega (arith, taken-is change new, d .found, own-counted)) in
+              let e : m′ + takenBy change ≡ m + putBy change = omega (arith, count-is, own-counted, taken-is change new, put-is change new, d .found) in
+              record {
+                size = sym (b .place .whole) ∙ b .place .end;
+                more = omega (arith, k .0, k .1);
+                less = omega (arith, k .0, k .1);
+                inside = omega (arith, l .0, l .1);
+                old = omega (arith, l .0, l .1, l .2, l .3, l .4, a .place .totalLimit, a .place .lists .ownLimit);
+                new = omega (arith, l .0, l .1, l .2, l .3, l .4, within, own-few);
+                room = roomIs;
+              }
+
+          -- the new pair sheet is the old one with the new B in it
+          pair-is : withList sheet middle m used (take end w′) ≡ pairBytes p′
           unfolding pairBytes orderBytes
-          pair-is = bytes-are ∙ sym (append-assoc (listBytes (o .gate)) (listBytes l′) (drop third s)) ∙ ap (λ (y : List ℕ). (listBytes (o .gate) ++ listBytes l′) ++ y) (sym (a .sectionBytes))
+          pair-is =
+              let l = sheet-long in
+              let e : take (used - third) (drop third sheet) ≡ drop third s = revised.part-is third used sheet (l .1) inside ∙ ap (drop third) (sym is) in
+              rw (l .0, front-is, bytes-are, e, ← (a .sectionBytes)) (sym (append-assoc (listBytes (o .gate)) (listBytes l′) _))
 
-          good : PairGood limits p′
-          good = record {
-            gate = a .good .gate;
-            own = clean .0;
-            counted = a .good .counted;
-            groups = record { boxes = a .good .groups .boxes; within = omega (arith, count-is, a .place .boxesAre) };
-          }
-
-          pub own-fits-in : length (take end w′) ≤ pairSize limits
-          own-fits-in = omega (arith, ap length pair-is, pair-short limits p′ (omega arith) (omega arith) good (omega arith))
-
-          pub own-done : {sheet sheet′ : List ℕ} → sheet′ ≡ filled (pairSize limits) sheet (take end w′)
-              → Writes pairBytes (pairSize limits) (editedOf limits s q) sheet w (Length end) sheet′ w′
+          pub own-done : {sheet′ : List ℕ} {r : ℕ} → (r ≡ length (withList sheet middle m used (take end w′))) × (sheet′ ≡ filled (pairSize limits) sheet (withList sheet middle m used (take end w′)))
+              → Writes pairBytes (pairSize limits) (editedOf limits s q) sheet w (Length r) sheet′ w′
           unfolding lengthOf written
           own-done e = record {
-            answer = rw (accepted-is, ← pair-is) (ap accepted (d .long ∙ ap length (sym (d .bytes))));
-            result = rw accepted-is (e ∙ ap (filled (pairSize limits) _) pair-is);
+            answer = rw (accepted-is, ← pair-is, e .0);
+            result = rw (accepted-is, ← pair-is) (e .1);
             beyond = own-beyond;
           }

@@ -3,10 +3,11 @@
 use mathlib.Core.Path.{_≡_, refl, ap, sym, _∙_}
 use mathlib.Core.List.{List, _++_}
 use mathlib.Core.Bool.{true, cond, not}
-use Prim.Native.Nat.{ℕ, zero, suc, _+_, _≤_, _<_}
+use Prim.Native.Nat.{ℕ, zero, suc, _+_, _-_, _≤_, _<_}
 use native.Mathlib.Omega.{arith}
 use lib.Dec.{leb}
-use lib.ListN.{length}
+use lib.ListN.{length, take, drop}
+use lib.Seq.{take-add, drop-at, length-take-le}
 use borrow.Author.Tests.{le-leb, lt-leb}
 use Rattle.lists.proofs.Lists.{three-parts}
 use Rattle.policy.specs.Fields.{limits}
@@ -25,11 +26,18 @@ use Rattle.sheet.specs.Readers.{pairOf, pairHeard, PairRead}
 use Rattle.sheet.specs.declared.PairParts.{PairParts}
 use Rattle.sheet.specs.declared.PairParts.the-variants.{Parts}
 use Rattle.sheet.proofs.Accepted.{PairAccepted}
-use Rattle.planner.specs.Steps.{Writes, slotted}
+use Rattle.planner.specs.Steps.{Writes, slotted, partOf}
 use Rattle.planner.specs.Edits.{Asked, asked, editOf, wholeRecord, changeOf, editedOf}
 use Rattle.planner.specs.declared.Change.{Change}
 use Rattle.changes.specs.Changes.{takenBy, changedBytes, ListChanged}
 use Rattle.changes.proofs.Changes.{taken-is, change-refused}
+
+-- a part of the sheet is the end of what is used of it
+pub part-is : (from used : ℕ) (sheet : List ℕ) → from ≤ used → used ≤ length sheet → partOf from used sheet ≡ drop from (take used sheet)
+part-is from used sheet h k =
+    let e : used ≡ from + (used - from) = omega arith in
+    sym (ap (λ (n : ℕ). drop from (take n sheet)) e ∙ ap (drop from) (take-add from (used - from) sheet)
+    ∙ drop-at (take from sheet) (take (used - from) (drop from sheet)) from (length-take-le from sheet (omega arith)))
 
 unless-refused : {A B : Type 0} (k r n : ℕ) (y : A) (z : B) → unless k y ≡ refused n → unless (orElse k r) z ≡ refused n
 unless-refused zero r n y z e = let q : _≡_ {A = ℕ} 0 1 = cc in absurd (omega arith)
@@ -84,9 +92,9 @@ module _ {s : List ℕ} {n m middle third boxes : ℕ} (a : PairAccepted s n m m
     unfolding editedOf changeOf
     shape = rw (a .reads, there, taken-is change new, counted)
 
-    pub revised-refused : (t : List ℕ) (start : ℕ) {out out′ : List ℕ} (f : Refusal) → ListChanged (changedBytes t start count place change new) out (Refused f) out′
+    pub revised-refused : (t : List ℕ) {out out′ : List ℕ} (f : Refusal) → ListChanged (changedBytes t count place change new) out (Refused f) out′
         → editedOf limits s q ≡ refused (numberOf f)
-    revised-refused t start f x = shape ∙ change-refused (unless (changeRefusal limits (editOf q) p) (edited (editOf q) p)) t start count place change new f x .0
+    revised-refused t f x = shape ∙ change-refused (unless (changeRefusal limits (editOf q) p) (edited (editOf q) p)) t count place change new f x .0
 
     module _ (found : place + takenBy change ≤ count) (whole : wholeRecord change new ≡ true) (clean : listRefusal (most (editOf q)) (target (editOf q) (p .order)) ≡ 0) where
       passed : editedOf limits s q ≡ unless (orElse (listRefusal (most (editOf q)) (newList (editOf q) (p .order))) (room limits (newOrder (editOf q) (p .order)) (newSlots (editOf q) p))) (edited (editOf q) p)

@@ -2,6 +2,7 @@
 // there, and the sheet is not touched before the edit is known to be accepted.
 use changes::change_list;
 use changes::places;
+use changes::put_list;
 use groups::WORK_BYTES;
 use planner::Change;
 use policy::Answer;
@@ -51,7 +52,7 @@ fn revise_gate_with(
             middle: _,
             third,
             boxes: _,
-        } => match change_list(&sheet[..third], 0, gate, place, change, new, order) {
+        } => match change_list(&sheet[..third], gate, place, change, new, order) {
             Answer::Refused(f) => Answer::Refused(f),
             Answer::Length(end) => match sheet::read_section(&order[..end], GATE_MOST) {
                 Section::Fault(f) => Answer::Refused(f),
@@ -90,8 +91,8 @@ fn revise_gate(
     revise_gate_with(sheet, used, place, change, new, &mut order, work)
 }
 
-// An edit of B: every group is kept, so that the new pair sheet is the old one with the new B in it. It is made in the work
-// buffer, and the new B read there.
+// An edit of B: the new B made in the work buffer and read there, and put in the place of the old one. Every group is kept, so
+// that section C is only moved along.
 fn revise_own(
     sheet: &mut [u8],
     used: usize,
@@ -109,11 +110,11 @@ fn revise_own(
             gate: _,
             own,
             middle,
-            third: _,
+            third,
             boxes,
-        } => match change_list(&sheet[..used], middle, own, place, change, new, work) {
+        } => match change_list(&sheet[middle..third], own, place, change, new, work) {
             Answer::Refused(f) => Answer::Refused(f),
-            Answer::Length(end) => match sheet::read_section(&work[middle..end], OWN_MOST) {
+            Answer::Length(end) => match sheet::read_list(&work[..end], OWN_MOST) {
                 Section::Fault(f) => Answer::Refused(f),
                 Section::Rules {
                     count: renewed,
@@ -122,8 +123,7 @@ fn revise_own(
                     if TOTAL_MOST < boxes + renewed {
                         return Answer::Refused(Refusal::TooManyBoxes);
                     }
-                    wire::fill(sheet, PAIR_BYTES, &work[..end]);
-                    Answer::Length(end)
+                    Answer::Length(put_list(sheet, middle, own, used, &work[..end], renewed))
                 }
             },
         },

@@ -2,28 +2,19 @@
 use mathlib.Core.Path.{_≡_, refl, ap, sym, _∙_}
 use mathlib.Core.List.{List, [], _∷_, _++_}
 use mathlib.Core.Bool.{Bool, true, false, cond}
-use Prim.Native.Nat.{ℕ, suc, _+_, _*_, _<_, _≤_}
+use Prim.Native.Nat.{ℕ, _+_, _*_, _<_, _≤_}
 use native.Mathlib.Omega.{arith}
 use lib.Dec.{ltb}
-use lib.ListN.{length, take, drop, set, length-append}
-use lib.Seq.{sets, length-sets, take-set-le, drop-set-lt}
+use lib.ListN.{length, take, drop, length-append}
+use lib.Seq.{sets, length-sets}
 use borrow.Author.Tests.{ltb-true, lt-ltb, le-ltb}
 use Rattle.lists.specs.Lists.{Each}
 use Rattle.policy.specs.Fields.{widths, boxSize}
 use Rattle.policy.specs.Ranges.{Region}
 use Rattle.wire.specs.Records.{boxBytes, boxesBytes, Fits}
 use Rattle.wire.proofs.Records.{boxBytes-length}
-use Rattle.lists.proofs.Lists.{sets-append}
+use Rattle.lists.proofs.Lists.{sets-append, take-sets, drop-sets}
 use Rattle.groups.specs.Stores.{places, storeOne, store, Stored}
-
--- A run of stores keeps what stands before it and behind it.
-take-sets : (n : ℕ) (l : List ℕ) (i : ℕ) (vs : List ℕ) → n ≤ i → take n (sets l i vs) ≡ take n l
-take-sets n l i [] h = refl
-take-sets n l i (v ∷ vs) h = take-sets n (set l i v) (suc i) vs (omega arith) ∙ take-set-le n l i v h
-
-pub drop-sets : (n : ℕ) (l : List ℕ) (i : ℕ) (vs : List ℕ) → i + length vs ≤ n → drop n (sets l i vs) ≡ drop n l
-drop-sets n l i [] h = refl
-drop-sets n l i (v ∷ vs) h = drop-sets n (set l i v) (suc i) vs (omega arith) ∙ drop-set-lt n l i v (omega arith)
 
 module _ (half : ℕ) where
   store-append : (work : List ℕ) (m : ℕ) (l k : List Region) → store half work m (l ++ k) ≡ store half (store half work m l) (m + length l) k

@@ -10,6 +10,7 @@ use lib.Seq.{sets, sets-eq, take-at, drop-cons}
 use borrow.Author.Tests.{lt-ltb, le-ltb, eq-eqb, ne-eqb}
 use Rattle.lists.specs.Lists.{Each, every}
 use Rattle.lists.proofs.Tests.{and-true}
+use Rattle.lists.proofs.Lists.{drop-sets}
 use Rattle.policy.specs.Fields.{widths, recordSize, boxSize, limits}
 use Rattle.policy.specs.Ranges.{Region}
 use Rattle.policy.specs.Rules.{Rule, rule, Proper, sound, allowsIn}
@@ -21,7 +22,6 @@ use Rattle.wire.proofs.Records.{proper-fits, boxBytes-length, box-back, boxesIn
 use Rattle.groups.specs.Worked.{workSize, startAt, allowsAt, workedOf, GroupStands, WorkedOut}
 use Rattle.groups.specs.declared.Worked.the-variants.{Boxes, TooMany}
 use Rattle.groups.specs.Stores.{places, Stands, Taken}
-use Rattle.groups.proofs.Stores.{drop-sets}
 use Rattle.groups.proofs.Taken.{cutEach-proper}
 
 -- A rule of a list that number 4 lets pass.

@@ -45,10 +45,6 @@ pub record Untouched (n : ℕ) (work : List ℕ) (a : Region) (i : ℕ) : Type 0
   pub upto : i ≤ n
   pub left : cutEach (boxesIn n work) a ≡ take i (boxesIn n work) ++ cutEach (drop i (boxesIn n work)) a
 
--- The bytes of the second half from one place up to another, at the same places of the first half.
-unfoldable pub copiedDown : ℕ → ℕ → ℕ → List ℕ → List ℕ
-copiedDown half from to work = take from work ++ (take (to - from) (drop (half + from) work) ++ drop to work)
-
 -- What taking an allow from all pieces leaves: how many there are, and unless they are too many, they stand at the front.
 pub record Taken (half : ℕ) (work : List ℕ) (n : ℕ) (a : Region) (work′ : List ℕ) (r : ℕ) : Type 0 where
   pub count : r ≡ length (cutEach (boxesIn n work) a)

@@ -19,7 +19,7 @@ ghost use Rattle.policy.specs.Values.{regionOf, rangeAt, partBelow, partAbove};
 ghost use Rattle.policy.specs.Cut.{shared, cut, cutEach};
 ghost use Rattle.wire.specs.Records.{boxBytes, boxIn, boxesIn, rulesIn};
 ghost use Rattle.groups.specs.Worked.{WorkedOut, workSize};
-ghost use Rattle.groups.specs.Stores.{places, most, Stored, Stands, Untouched, copiedDown, Taken};
+ghost use Rattle.groups.specs.Stores.{places, most, Stored, Stands, Untouched, Taken};
 
 pub const WORK_BYTES: usize = 2 * PIECES_MOST * BOX_BYTES;
 
@@ -218,18 +218,6 @@ fn cut_pieces(work: &mut [u8], half: usize, first: usize, n: usize, a: Box) -> u
     m
 }
 
-// The bytes of the second half from one place up to another, copied down to the first half.
-fn copy_down(work: &mut [u8], half: usize, from: usize, to: usize)
-    requires { ⌜ (from ≤ to) × (to ≤ half) × (half + to ≤ length (now work)) ⌝ }
-    ensures { λ r. ⌜ now (work .exit) ≡ copiedDown half from to (now (work .entry)) ⌝ }
-{
-    let mut i = from;
-    while i < to {
-        work[i] = work[half + i];
-        i += 1;
-    }
-}
-
 // An allow taken from each of n pieces; how many are then there.
 fn take_allow(work: &mut [u8], half: usize, n: usize, a: Box) -> usize
     requires { ⌜ (half + half ≤ length (now work)) × (boxSize * places ≤ half) × (n ≤ places) ⌝ }
@@ -241,7 +229,7 @@ fn take_allow(work: &mut [u8], half: usize, n: usize, a: Box) -> usize
     if PIECES_MOST < m {
         return m;
     }
-    copy_down(work, half, BOX_BYTES * first, BOX_BYTES * m);
+    wire::copy_down(work, half, BOX_BYTES * first, BOX_BYTES * m);
     m
 }
 

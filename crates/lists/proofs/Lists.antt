@@ -1,11 +1,11 @@
 -- Laws on lists that the logic's own library lacks. Assumes nothing.
 use mathlib.Core.Path.{_≡_, refl, ap, _∙_}
-use mathlib.Core.List.{List, [], _∷_, _++_, map}
+use mathlib.Core.List.{List, [], _∷_, _++_, map, append-assoc}
 use mathlib.Core.Bool.{Bool, true}
-use Prim.Native.Nat.{ℕ, zero, suc, _+_, _<_}
+use Prim.Native.Nat.{ℕ, zero, suc, _+_, _<_, _≤_}
 use native.Mathlib.Omega.{arith}
 use lib.ListN.{length, getD, set, take, drop, take-append-drop}
-use lib.Seq.{sets}
+use lib.Seq.{sets, sets-eq, take-set-le, drop-set-lt}
 use Rattle.lists.specs.Lists.{Each, every}
 use Rattle.lists.proofs.Tests.{and-true, and-both}
 
@@ -26,6 +26,19 @@ pub sets-append {ℓ} : {A : Type ℓ} (l : List A) (i : ℕ) (u v : List A) →
 sets-append l i [] v = ap (λ (n : ℕ). sets l n v) (omega arith)
 sets-append l i (a ∷ u) v =
     sets-append (set l i a) (suc i) u v ∙ ap (λ (n : ℕ). sets (sets (set l i a) (suc i) u) n v) (omega arith)
+
+-- It keeps what stands before it and behind it.
+pub take-sets {ℓ} : {A : Type ℓ} (n : ℕ) (l : List A) (i : ℕ) (vs : List A) → n ≤ i → take n (sets l i vs) ≡ take n l
+take-sets n l i [] h = refl
+take-sets n l i (v ∷ vs) h = take-sets n (set l i v) (suc i) vs (omega arith) ∙ take-set-le n l i v h
+
+pub drop-sets {ℓ} : {A : Type ℓ} (n : ℕ) (l : List A) (i : ℕ) (vs : List A) → i + length vs ≤ n → drop n (sets l i vs) ≡ drop n l
+drop-sets n l i [] h = refl
+drop-sets n l i (v ∷ vs) h = drop-sets n (set l i v) (suc i) vs (omega arith) ∙ drop-set-lt n l i v (omega arith)
+
+-- What stands before it, what it stores, and what stands behind it.
+pub sets-parts {ℓ} : {A : Type ℓ} (l : List A) (i : ℕ) (vs : List A) → i + length vs ≤ length l → sets l i vs ≡ take i l ++ (vs ++ drop (i + length vs) l)
+sets-parts l i vs h = sets-eq vs l i h ∙ append-assoc (take i l) vs (drop (i + length vs) l)
 
 module _ {A : Type 0} where
   pub each-append : (P : A → Type 0) (l k : List A) → Each P l → Each P k → Each P (l ++ k)

@@ -5,3 +5,4 @@ pub mod Counts
 pub mod Lists
 pub mod Buffers
 pub mod Steps
+pub mod Copies

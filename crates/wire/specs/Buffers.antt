@@ -1,6 +1,6 @@
 -- What writing leaves in a lent buffer (01, Calls and Numbers given back). Assumes nothing.
 use mathlib.Core.List.{List, _++_}
-use Prim.Native.Nat.{ℕ, _-_}
+use Prim.Native.Nat.{ℕ, _+_, _-_}
 use lib.ListN.{length, take, drop, replicate}
 use Rattle.policy.specs.Refusals.{Outcome, accepted, refused}
 
@@ -21,3 +21,11 @@ written bytes end out (refused n) = out
 unfoldable pub lengthOf : {A : Type 0} → (A → List ℕ) → Outcome A → Outcome ℕ
 lengthOf bytes (accepted a) = accepted (length (bytes a))
 lengthOf bytes (refused n) = refused n
+
+-- Each byte from one place up to another taken from `by` places further up.
+unfoldable pub copiedDown : ℕ → ℕ → ℕ → List ℕ → List ℕ
+copiedDown by from to out = take from out ++ (take (to - from) (drop (by + from) out) ++ drop to out)
+
+-- The first n bytes put `by` places further up.
+unfoldable pub copiedUp : ℕ → ℕ → List ℕ → List ℕ
+copiedUp by n out = take by out ++ (take n out ++ drop (by + n) out)

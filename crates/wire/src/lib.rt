@@ -1,4 +1,4 @@
-// Numbers, boxes and records in bytes, and the zeroing and filling of lent bytes.
+// Numbers, boxes and records in bytes, and the zeroing, filling and copying of lent bytes.
 
 use policy::BOX_BYTES;
 use policy::Box;
@@ -14,7 +14,7 @@ ghost use Rattle.policy.specs.Fields.{boxSize, recordSize, countSize};
 ghost use Rattle.policy.specs.Values.{regionOf, ruleOf};
 ghost use Rattle.wire.specs.Numbers.{numberBytes, numberIn, isWidth};
 ghost use Rattle.wire.specs.Records.{boxBytes, boxIn, recordBytes, ruleIn};
-ghost use Rattle.wire.specs.Buffers.{zeroed, filled};
+ghost use Rattle.wire.specs.Buffers.{zeroed, filled, copiedDown, copiedUp};
 
 fn wide(x: u8) -> u32
     ensures { λ r. ⌜ (r ≡ x) × (r < 256) ⌝ }
@@ -203,4 +203,28 @@ pub fn put_bytes(out: &mut [u8], at: usize, content: &[u8]) -> usize
 {
     bytes::copy(content, &mut out[at..]);
     at + content.len()
+}
+
+// The bytes from one place up to another, each taken from so many places further up.
+pub fn copy_down(out: &mut [u8], by: usize, from: usize, to: usize)
+    requires { ⌜ (from ≤ to) × (by + to ≤ length (now out)) ⌝ }
+    ensures { λ r. ⌜ now (out .exit) ≡ copiedDown by from to (now (out .entry)) ⌝ }
+{
+    let mut i = from;
+    while i < to {
+        out[i] = out[by + i];
+        i += 1;
+    }
+}
+
+// The first n bytes, each put so many places further up; the last one first, since the two stretches may overlap.
+pub fn copy_up(out: &mut [u8], by: usize, n: usize)
+    requires { ⌜ by + n ≤ length (now out) ⌝ }
+    ensures { λ r. ⌜ now (out .exit) ≡ copiedUp by n (now (out .entry)) ⌝ }
+{
+    let mut i = n;
+    while 0 < i {
+        i -= 1;
+        out[by + i] = out[i];
+    }
 }

@@ -19,7 +19,7 @@ returns : tie.Need-returns
 returns c =
     let a = c .before .before .before .before .before .args in
     let t = c .before .taken-by .ensures in
-    changed-no-place (a .s .now) (a .start) (a .count) (a .place) (a .change) (a .new .now) (a .out .now) (t .0) (omega (arith, t .1, c .before .before .before .before .before .pre .0)) (omega (arith, c .if1 .taken))
+    changed-no-place (a .s .now) (a .count) (a .place) (a .change) (a .new .now) (a .out .now) (t .0) (omega (arith, t .1, c .before .before .before .before .before .pre .0)) (omega (arith, c .if1 .taken))
 
 is-whole-requires : tie.Need-is-whole-requires
 is-whole-requires c κs = search needs
@@ -28,7 +28,7 @@ returns-2 : tie.Need-returns-2
 returns-2 c =
     let a = c .before .before .before .before .before .before .before .args in
     let t = c .before .before .before .taken-by .ensures in
-    changed-short (a .s .now) (a .start) (a .count) (a .place) (a .change) (a .new .now) (a .out .now) (t .0) (omega (arith, t .1, c .before .before .before .before .before .before .before .pre .0)) (omega (arith, c .before .before .if1 .left)) (sym (c .before .is-whole .ensures) ∙ not-true _ (c .if2 .taken))
+    changed-short (a .s .now) (a .count) (a .place) (a .change) (a .new .now) (a .out .now) (t .0) (omega (arith, t .1, c .before .before .before .before .before .before .before .pre .0)) (omega (arith, c .before .before .if1 .left)) (sym (c .before .is-whole .ensures) ∙ not-true _ (c .if2 .taken))
 
 put-by-requires : tie.Need-put-by-requires
 put-by-requires c κs = search needs
@@ -56,7 +56,7 @@ returns-3 : tie.Need-returns-3
 returns-3 c =
     let a = c .before .before .before .before .before .before .before .before .before .before .before .before .before .args in
     let t = c .before .before .before .before .before .before .before .before .before .taken-by .ensures in
-    changed-done (a .s .now) (a .start) (a .count) (a .place) (a .change) (a .new .now) (a .out .now) (t .0) (omega (arith, t .1, c .before .before .before .before .before .before .before .before .before .before .before .before .before .pre .0)) (omega (arith, c .before .before .before .before .before .before .before .before .if1 .left)) (sym (c .before .before .before .before .before .before .before .is-whole .ensures) ∙ not-false _ (c .before .before .before .before .before .before .if2 .left)) (c .before .before .before .before .before .put-by .ensures .0) (c .before .before .splice .ensures .0) (c .before .before .splice .ensures .1)
+    changed-done (a .s .now) (a .count) (a .place) (a .change) (a .new .now) (a .out .now) (t .0) (omega (arith, t .1, c .before .before .before .before .before .before .before .before .before .before .before .before .before .pre .0)) (omega (arith, c .before .before .before .before .before .before .before .before .if1 .left)) (sym (c .before .before .before .before .before .before .before .is-whole .ensures) ∙ not-false _ (c .before .before .before .before .before .before .if2 .left)) (c .before .before .before .before .before .put-by .ensures .0) (c .before .before .splice .ensures .0) (c .before .before .splice .ensures .1)
 
 pub change-list-spec : {M : Type 1} → statement M
 change-list-spec =

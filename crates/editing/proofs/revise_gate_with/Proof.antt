@@ -54,9 +54,9 @@ module _ (c : tie.After-end) where
   end = c .end .given .0 .0
 
   abbrev made : List ℕ
-  made = c .before .before .before .before .change-list .last .1 .1 .1 .1 .1 .1 .0
+  made = c .before .before .before .before .change-list .last .1 .1 .1 .1 .1 .0
 
-  changed : ListChanged (changedBytes (take (third g) (s g)) 0 (gate g) (c .before .before .before .before .before .before .before .before .before .before .before .before .before .before .before .before .args .place) (c .before .before .before .before .before .before .before .before .before .before .before .before .before .before .before .before .args .change) (c .before .before .before .before .before .before .before .before .before .before .before .before .before .before .before .before .args .new .now)) (c .before .before .before .before .before .before .before .before .before .before .before .before .before .before .before .before .args .order .now) (Length end) made
+  changed : ListChanged (changedBytes (take (third g) (s g)) (gate g) (c .before .before .before .before .before .before .before .before .before .before .before .before .before .before .before .before .args .place) (c .before .before .before .before .before .before .before .before .before .before .before .before .before .before .before .before .args .change) (c .before .before .before .before .before .before .before .before .before .before .before .before .before .before .before .before .args .new .now)) (c .before .before .before .before .before .before .before .before .before .before .before .before .before .before .before .before .args .order .now) (Length end) made
   changed = rw (c .end .given .1, lists-are g) at (c .before .before .before .before .change-list .ensures)
 
   ends : end ≤ length (c .before .before .before .before .before .before .before .before .before .before .before .before .before .before .before .before .args .order .now)

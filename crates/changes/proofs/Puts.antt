@@ -1,0 +1,80 @@
+-- A changed list put in the place of the old one: what is moved and what is left. Assumes nothing.
+use mathlib.Core.Path.{_≡_, ap, sym, _∙_}
+use mathlib.Core.List.{List, _++_, append-assoc}
+use Prim.Native.Nat.{ℕ, _+_, _-_, _≤_, _<_}
+use native.Mathlib.Omega.{arith}
+use lib.ListN.{length, take, drop, length-append, length-drop, take-append-drop}
+use lib.Seq.{sets, take-at, drop-at, drop-drop, take-add, length-sets, length-take-le}
+use Rattle.lists.proofs.Lists.{take-sets, drop-sets, sets-parts}
+use Rattle.lists.proofs.Parts.{tail-whole, tail-back}
+use Rattle.policy.specs.Fields.{recordSize, limits}
+use Rattle.wire.specs.Buffers.{zeroed, filled, copiedDown, copiedUp}
+use Rattle.wire.specs.Lists.{listSize}
+use Rattle.sheet.specs.Pairs.{pairSize}
+use Rattle.changes.specs.Puts.{movedTo, RoomReady, withList, PutReady}
+
+module _ {s : List ℕ} {next behind count renewed : ℕ} (h : RoomReady s next behind count renewed) where
+  abbrev part : List ℕ
+  part = take behind (drop next s)
+
+  part-long : length part ≡ behind
+  part-long = length-take-le behind (drop next s) (rw length-drop (omega (arith, h .old)))
+
+  pub room-up : count < renewed → (y : List ℕ) → y ≡ copiedUp recordSize behind (take (length s - next) (drop next s))
+      → take next s ++ (y ++ drop (length s - next) (drop next s)) ≡ sets s (movedTo next count renewed) part
+  unfolding copiedUp
+  room-up k y ey =
+      let e : movedTo next count renewed ≡ next + recordSize = omega (arith, h .more, h .front) in
+      let i : next + (recordSize + behind) ≡ next + recordSize + length part = omega (arith, part-long) in
+      let d : drop (recordSize + behind) (drop next s) ≡ drop (next + recordSize + length part) s = drop-drop (recordSize + behind) next s ∙ ap (λ (j : ℕ). drop j s) i in
+      tail-back s next (omega (arith, h .old)) y
+      ∙ rw (ey, tail-whole s next (omega (arith, h .old)), e, d, sets-parts s (next + recordSize) part (omega (arith, part-long, h .new)), take-add next recordSize s) (sym (append-assoc (take next s) (take recordSize (drop next s)) (part ++ drop (next + recordSize + length part) s)))
+
+  pub room-down : renewed < count → (y : List ℕ) → y ≡ copiedDown recordSize 0 behind (take (length s - (next - recordSize)) (drop (next - recordSize) s))
+      → take (next - recordSize) s ++ (y ++ drop (length s - (next - recordSize)) (drop (next - recordSize) s)) ≡ sets s (movedTo next count renewed) part
+  unfolding copiedDown
+  room-down k y ey =
+      let e : movedTo next count renewed ≡ next - recordSize = omega (arith, h .less, h .front) in
+      let z : behind - 0 ≡ behind = omega arith in
+      let i : next - recordSize + (recordSize + 0) ≡ next = omega (arith, h .front) in
+      let f : drop (recordSize + 0) (drop (next - recordSize) s) ≡ drop next s = drop-drop (recordSize + 0) (next - recordSize) s ∙ ap (λ (j : ℕ). drop j s) i in
+      let d : drop behind (drop (next - recordSize) s) ≡ drop (next - recordSize + length part) s = drop-drop behind (next - recordSize) s ∙ ap (λ (j : ℕ). drop (next - recordSize + j) s) (sym part-long) in
+      tail-back s (next - recordSize) (omega (arith, h .old)) y
+      ∙ rw (ey, tail-whole s (next - recordSize) (omega (arith, h .old)), e, z, f, d, sets-parts s (next - recordSize) part (omega (arith, part-long, h .old)))
+
+  pub room-kept : renewed ≤ count → count ≤ renewed → s ≡ sets s (movedTo next count renewed) part
+  room-kept j k =
+      let e : movedTo next count renewed ≡ next = omega arith in
+      let d : drop (next + length part) s ≡ drop behind (drop next s) = ap (λ (n : ℕ). drop (next + n) s) part-long ∙ sym (drop-drop behind next s) in
+      rw (e, sets-parts s next part (omega (arith, part-long, h .old)), d, take-append-drop behind (drop next s)) (sym (take-append-drop next s))
+
+module _ {s list : List ℕ} {start count used renewed : ℕ} (h : PutReady s start count used list renewed) where
+  abbrev next : ℕ
+  next = start + listSize count
+
+  abbrev behind : ℕ
+  behind = used - next
+
+  pub room-ready : RoomReady s next behind count renewed
+  room-ready = record { more = h .more; less = h .less; front = omega arith; old = omega (arith, h .inside, h .old, h .room); new = omega (arith, h .new, h .room) }
+
+  pub list-put : (s₁ s₂ s₃ : List ℕ) (end last : ℕ) → s₁ ≡ sets s (movedTo next count renewed) (take behind (drop next s)) → (end ≡ start + length list) × (s₂ ≡ sets s₁ start list)
+      → last ≡ end + behind → s₃ ≡ zeroed last (pairSize limits) s₂
+      → (last ≡ length (withList s start count used list)) × (s₃ ≡ filled (pairSize limits) s (withList s start count used list))
+  unfolding zeroed filled
+  list-put s₁ s₂ s₃ end last e₁ e₂ el e₃ =
+      let t : List ℕ = take behind (drop next s) in
+      let lt : length t ≡ behind = part-long room-ready in
+      let to : movedTo next count renewed ≡ end = omega (arith, h .size, e₂ .0) in
+      let f₁ : s₁ ≡ sets s end t = e₁ ∙ ap (λ (i : ℕ). sets s i t) to in
+      let fit : end + length t ≤ length s = omega (arith, h .new, h .size, h .room, e₂ .0) in
+      let l₁ : length s₁ ≡ length s = ap length f₁ ∙ length-sets s end t in
+      let g : drop end s₁ ≡ t ++ drop (end + length t) s = ap (drop end) (f₁ ∙ sets-parts s end t fit) ∙ drop-at (take end s) (t ++ drop (end + length t) s) end (length-take-le end s (omega arith)) in
+      let f₂ : s₂ ≡ take start s ++ (list ++ (t ++ drop (end + length t) s)) =
+      e₂ .1 ∙ sets-parts s₁ start list (omega (arith, e₂ .0)) ∙ rw (← (e₂ .0), g, f₁, take-sets start s end t (omega (arith, e₂ .0))) in
+      let c : List ℕ = withList s start count used list in
+      let f : s₂ ≡ c ++ drop (end + length t) s = f₂ ∙ rw (append-assoc (take start s) (list ++ t) (drop (end + length t) s), append-assoc list t (drop (end + length t) s)) in
+      let lc : length c ≡ last = rw (length-append (take start s) (list ++ t), length-append list t, length-take-le start s (omega (arith, e₂ .0))) (omega (arith, e₂ .0)) in
+      let b : drop (pairSize limits) s₂ ≡ drop (pairSize limits) s =
+      ap (drop (pairSize limits)) (e₂ .1) ∙ drop-sets (pairSize limits) s₁ start list (omega (arith, e₂ .0, h .new, h .size)) ∙ ap (drop (pairSize limits)) f₁ ∙ drop-sets (pairSize limits) s end t (omega (arith, e₂ .0, h .new, h .size)) in
+      (sym lc, e₃ ∙ rw (b, lc, f, take-at c (drop (end + length t) s) last lc))

@@ -1,0 +1,33 @@
+-- A changed list put into a sheet in the place of the old one, and what stands behind it moved along. Assumes nothing.
+use mathlib.Core.Path.{_≡_}
+use mathlib.Core.List.{List, _++_}
+use Prim.Native.Nat.{ℕ, _+_, _*_, _-_, _≤_}
+use lib.ListN.{length, take, drop}
+use Rattle.policy.specs.Fields.{recordSize, limits}
+use Rattle.wire.specs.Lists.{listSize}
+use Rattle.sheet.specs.Pairs.{pairSize}
+
+-- Where the bytes behind a list stand once it has one rule more, as many or one less.
+abbrev pub movedTo : ℕ → ℕ → ℕ → ℕ
+movedTo next count renewed = next + recordSize * renewed - recordSize * count
+
+pub record RoomReady (sheet : List ℕ) (next behind count renewed : ℕ) : Type 0 where
+  pub more : renewed ≤ count + 1
+  pub less : count ≤ renewed + 1
+  pub front : recordSize * count ≤ next
+  pub old : next + behind ≤ length sheet
+  pub new : movedTo next count renewed + behind ≤ length sheet
+
+-- The bytes up to `used` with a list in the place of the one of `count` rules at `start`.
+abbrev pub withList : List ℕ → ℕ → ℕ → ℕ → List ℕ → List ℕ
+withList s start count used list =
+    take start s ++ (list ++ take (used - (start + listSize count)) (drop (start + listSize count) s))
+
+pub record PutReady (sheet : List ℕ) (start count used : ℕ) (list : List ℕ) (renewed : ℕ) : Type 0 where
+  pub size : length list ≡ listSize renewed
+  pub more : renewed ≤ count + 1
+  pub less : count ≤ renewed + 1
+  pub inside : start + listSize count ≤ used
+  pub old : used ≤ pairSize limits
+  pub new : start + listSize renewed + (used - (start + listSize count)) ≤ pairSize limits
+  pub room : pairSize limits ≤ length sheet
