@@ -44,6 +44,7 @@ unfoldable pub overlaid : List ℕ → Outcome (List ℕ) → List ℕ
 overlaid out (accepted s) = sets out 0 s
 overlaid out (refused n) = out
 
+-- The answer is the length of what stands at the front, or the refusal.
 pub record ListChanged (x : Outcome (List ℕ)) (out : List ℕ) (r : Answer) (out′ : List ℕ) : Type 0 where
   pub answer : said r ≡ lengthOf (λ (s : List ℕ). s) x
   pub result : out′ ≡ overlaid out x

@@ -1,4 +1,5 @@
--- A changed list put into a sheet in the place of the old one, and what stands behind it moved along. Assumes nothing.
+-- A changed list put into a sheet in the place of the old one, and what stands behind it moved along (01, Calls). Assumes
+-- nothing.
 use mathlib.Core.Path.{_≡_}
 use mathlib.Core.List.{List, _++_}
 use Prim.Native.Nat.{ℕ, _+_, _*_, _-_, _≤_}
@@ -11,6 +12,7 @@ use Rattle.sheet.specs.Pairs.{pairSize}
 abbrev pub movedTo : ℕ → ℕ → ℕ → ℕ
 movedTo next count renewed = next + recordSize * renewed - recordSize * count
 
+-- What moving them asks for: the counts differ by one at most, and there is room at both places.
 pub record RoomReady (sheet : List ℕ) (next behind count renewed : ℕ) : Type 0 where
   pub more : renewed ≤ count + 1
   pub less : count ≤ renewed + 1
@@ -23,6 +25,7 @@ abbrev pub withList : List ℕ → ℕ → ℕ → ℕ → List ℕ → List ℕ
 withList s start count used list =
     take start s ++ (list ++ take (used - (start + listSize count)) (drop (start + listSize count) s))
 
+-- What putting the list asks for: it has `renewed` rules, one more or less at most, and the sheet fits before and after.
 pub record PutReady (sheet : List ℕ) (start count used : ℕ) (list : List ℕ) (renewed : ℕ) : Type 0 where
   pub size : length list ≡ listSize renewed
   pub more : renewed ≤ count + 1

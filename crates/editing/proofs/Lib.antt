@@ -1,5 +1,2 @@
-pub mod Slots
-pub mod Revised
-pub mod Gate
-pub mod Own
+pub mod Lists
 pub mod Calls

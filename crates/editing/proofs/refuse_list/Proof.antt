@@ -1,7 +1,7 @@
 -- `refuse_list` meets its contract. Assumes nothing.
 use borrow.Author.Needs.{needs}
 use Rattle.sheet.proofs.Accepted.{pair-refused}
-use Rattle.editing.proofs.Revised.{no-list-read}
+use Rattle.editing.proofs.Lists.{no-list-read}
 use Rattle.editing.proofs.refuse_list.Statement.{statement}
 use Rattle.editing.proofs.refuse_list.Tie as tie
 

@@ -4,7 +4,7 @@ use native.Mathlib.Omega.{arith}
 use mathlib.Core.Path.{_≡_}
 use lib.ListN.{take, length-take}
 use Rattle.planner.specs.Edits.{asked}
-use Rattle.editing.proofs.Revised.{no-list}
+use Rattle.editing.proofs.Lists.{no-list}
 use Rattle.editing.proofs.revise.Statement.{statement}
 use Rattle.editing.proofs.revise.Tie as tie
 

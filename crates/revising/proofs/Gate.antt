@@ -43,9 +43,9 @@ use Rattle.planner.proofs.Demands.{changed-fits}
 use Rattle.changes.specs.Changes.{takenBy, putBy, changedBytes, ListChanged}
 use Rattle.changes.specs.Drafts.{aroundOf}
 use Rattle.changes.proofs.Changes.{ChangeDone, change-done, list-spliced, taken-is, put-is, changed-length}
-use Rattle.editing.specs.Edits.{Revised}
-use Rattle.editing.proofs.Slots.{around-length, gate-slots, gate-placed}
-use Rattle.editing.proofs.Revised as revised
+use Rattle.revising.specs.Edits.{Revised}
+use Rattle.revising.proofs.Slots.{around-length, gate-slots, gate-placed}
+use Rattle.revising.proofs.Revised as revised
 
 module _ {s : List ℕ} {n m middle third boxes : ℕ} (a : PairAccepted s n m middle third boxes) where
   abbrev p : Pair

@@ -15,10 +15,10 @@ use Rattle.sheet.specs.Pairs.{pairBytes, pairSize}
 use Rattle.sheet.proofs.Accepted.{PairAccepted, pair-refused, pair-accepted}
 use Rattle.planner.proofs.Finished.{refuses}
 use Rattle.changes.specs.Changes.{changedBytes, ListChanged}
-use Rattle.editing.proofs.Revised.{pair-faulty}
-use Rattle.editing.proofs.Gate.{gate-inside, lists-long, gate-some, gate-refused, gate-end, gate-faulty, gate-places, gate-finishing, gate-done}
-use Rattle.editing.proofs.revise_gate_with.Statement.{statement}
-use Rattle.editing.proofs.revise_gate_with.Tie as tie
+use Rattle.revising.proofs.Revised.{pair-faulty}
+use Rattle.revising.proofs.Gate.{gate-inside, lists-long, gate-some, gate-refused, gate-end, gate-faulty, gate-places, gate-finishing, gate-done}
+use Rattle.revising.proofs.revise_gate_with.Statement.{statement}
+use Rattle.revising.proofs.revise_gate_with.Tie as tie
 
 -- what is known once the pair sheet is read well
 module _ (c : tie.After-gate) where

@@ -1,32 +1,28 @@
 -- What an edit of either list comes to, once the pair sheet is read: the two tests, what reading the changed list gives, and
 -- then 6 and 7. Assumes nothing.
-use mathlib.Core.Path.{_≡_, refl, ap, sym, _∙_}
+use mathlib.Core.Path.{_≡_, ap, sym, _∙_}
 use mathlib.Core.List.{List, _++_}
 use mathlib.Core.Bool.{true, cond, not}
-use Prim.Native.Nat.{ℕ, zero, suc, _+_, _-_, _≤_, _<_}
+use Prim.Native.Nat.{ℕ, zero, suc, _+_, _-_, _≤_}
 use native.Mathlib.Omega.{arith}
 use lib.Dec.{leb}
 use lib.ListN.{length, take, drop}
 use lib.Seq.{take-add, drop-at, length-take-le}
-use borrow.Author.Tests.{le-leb, lt-leb}
+use borrow.Author.Tests.{le-leb}
 use Rattle.lists.proofs.Lists.{three-parts}
 use Rattle.policy.specs.Fields.{limits}
 use Rattle.policy.specs.Rules.{Rule, complete}
-use Rattle.policy.specs.Refusals.{Outcome, accepted, refused, test, unless, given, orElse, faults, numberOf, andThen, said}
+use Rattle.policy.specs.Refusals.{refused, test, unless, given, orElse, faults, numberOf}
 use Rattle.policy.specs.Move.{room, Pair, badCount, listRefusal}
 use Rattle.policy.specs.Edit.{Kind, out, put, front, gone, back, Edit, target, newList, newOrder, newSlots, edited, changeRefusal}
-use Rattle.policy.specs.declared.Answer.{Answer}
 use Rattle.policy.specs.declared.Answer.the-variants.{Refused}
 use Rattle.policy.specs.declared.Refusal.{Refusal}
 use Rattle.policy.proofs.Numbers.{orElse-assoc}
 use Rattle.policy.proofs.Edits.{list-accepted, changed-faults}
-use Rattle.wire.specs.Buffers.{written, lengthOf}
-use Rattle.sheet.specs.Pairs.{pairIn, pairBytes, pairSize}
-use Rattle.sheet.specs.Readers.{pairOf, pairHeard, PairRead}
-use Rattle.sheet.specs.declared.PairParts.{PairParts}
-use Rattle.sheet.specs.declared.PairParts.the-variants.{Parts}
+use Rattle.sheet.specs.Pairs.{pairIn}
+use Rattle.sheet.specs.Readers.{pairOf}
 use Rattle.sheet.proofs.Accepted.{PairAccepted}
-use Rattle.planner.specs.Steps.{Writes, slotted, partOf}
+use Rattle.planner.specs.Steps.{slotted, partOf}
 use Rattle.planner.specs.Edits.{Asked, asked, editOf, wholeRecord, changeOf, editedOf}
 use Rattle.planner.specs.declared.Change.{Change}
 use Rattle.changes.specs.Changes.{takenBy, changedBytes, ListChanged}
@@ -62,23 +58,6 @@ change-chain e p clean =
 pub pair-faulty : (s : List ℕ) (q : Asked) (k : ℕ) → pairIn limits s ≡ refused k → editedOf limits s q ≡ refused k
 unfolding editedOf
 pair-faulty s q k e = rw e
-
--- a list that is not there: 9, once the sheet is read well
-pub no-list-read : {s : List ℕ} {r : PairParts} → PairRead s r → (n m middle third boxes : ℕ) → r ≡ Parts n m middle third boxes
-    → _≡_ {A = Outcome ℕ} (refused 9) (andThen (pairIn limits s) (λ (p : Pair). refused 9))
-unfolding pairHeard
-no-list-read {s} x n m middle third boxes e =
-    let a : pairIn limits s ≡ accepted (pairOf n m middle third s) = sym (x .says) ∙ ap (pairHeard s) e in
-    rw a
-
-pub no-list : (s : List ℕ) (q : Asked) → 1 < q .list → {sheet w : List ℕ} {r : Answer} → said r ≡ andThen (pairIn limits s) (λ (p : Pair). refused 9)
-    → Writes pairBytes (pairSize limits) (editedOf limits s q) sheet w r sheet w
-unfolding editedOf changeOf lengthOf written
-no-list s q h {sheet} {w} {r} e = go (pairIn limits s) e
-  where
-    go : (x : Outcome Pair) → said r ≡ andThen x (λ (p : Pair). refused 9) → Writes pairBytes (pairSize limits) (andThen x (changeOf limits q)) sheet w r sheet w
-    go (accepted p) k = rw (lt-leb (q .list) 1 h) (record { answer = k; result = refl; beyond = refl })
-    go (refused n) k = record { answer = k; result = refl; beyond = refl }
 
 module _ {s : List ℕ} {n m middle third boxes : ℕ} (a : PairAccepted s n m middle third boxes) (list place : ℕ) (change : Change) (new : List ℕ) (there : leb list 1 ≡ true) where
   abbrev p : Pair

@@ -17,10 +17,10 @@ use Rattle.sheet.specs.Readers.{rulesOf}
 use Rattle.sheet.proofs.Accepted.{PairAccepted, ListAccepted, pair-refused, pair-accepted, list-refused, list-accepted}
 use Rattle.planner.proofs.Finished.{refuses}
 use Rattle.changes.specs.Changes.{changedBytes, ListChanged}
-use Rattle.editing.proofs.Revised.{pair-faulty}
-use Rattle.editing.proofs.Own.{own-there, own-bytes, own-size, own-refused, own-end, own-beyond, own-faulty, own-few, own-seven, own-put, own-done}
-use Rattle.editing.proofs.revise_own.Statement.{statement}
-use Rattle.editing.proofs.revise_own.Tie as tie
+use Rattle.revising.proofs.Revised.{pair-faulty}
+use Rattle.revising.proofs.Own.{own-there, own-bytes, own-size, own-refused, own-end, own-beyond, own-faulty, own-few, own-seven, own-put, own-done}
+use Rattle.revising.proofs.revise_own.Statement.{statement}
+use Rattle.revising.proofs.revise_own.Tie as tie
 
 -- what is known once the pair sheet is read well
 module _ (c : tie.After-own) where

@@ -38,7 +38,7 @@ use Rattle.planner.proofs.Demands.{changed-fits}
 use Rattle.changes.specs.Changes.{takenBy, putBy, changedBytes, newBytes, ListChanged}
 use Rattle.changes.specs.Puts.{withList, PutReady}
 use Rattle.changes.proofs.Changes.{ChangeDone, change-refused, change-done, list-spliced, taken-is, put-is, few, changed-length}
-use Rattle.editing.proofs.Revised as revised
+use Rattle.revising.proofs.Revised as revised
 
 module _ {s : List ℕ} {n m middle third boxes : ℕ} (a : PairAccepted s n m middle third boxes) (sheet : List ℕ) (used : ℕ) (is : s ≡ take used sheet) (inside : used ≤ length sheet) where
   abbrev p : Pair

@@ -1,0 +1,4 @@
+pub mod Slots
+pub mod Revised
+pub mod Gate
+pub mod Own
