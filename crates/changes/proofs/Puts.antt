@@ -4,12 +4,13 @@ use mathlib.Core.List.{List, _++_, append-assoc}
 use Prim.Native.Nat.{ℕ, _+_, _-_, _≤_, _<_}
 use native.Mathlib.Omega.{arith}
 use lib.ListN.{length, take, drop, length-append, length-drop, take-append-drop}
-use lib.Seq.{sets, take-at, drop-at, drop-drop, take-add, length-sets, length-take-le}
-use Rattle.lists.proofs.Lists.{take-sets, drop-sets, sets-parts}
+use lib.Seq.{sets, take-all, drop-at, drop-drop, take-add, length-sets, length-take-le}
+use Rattle.lists.proofs.Lists.{take-sets, sets-parts}
 use Rattle.lists.proofs.Parts.{tail-whole, tail-back}
 use Rattle.policy.specs.Fields.{recordSize, limits}
 use Rattle.wire.specs.Buffers.{zeroed, filled, copiedDown, copiedUp}
 use Rattle.wire.specs.Lists.{listSize}
+use Rattle.wire.proofs.Buffers.{filled-is}
 use Rattle.sheet.specs.Pairs.{pairSize}
 use Rattle.changes.specs.Puts.{movedTo, RoomReady, withList, PutReady}
 
@@ -61,7 +62,6 @@ module _ {s list : List ℕ} {start count used renewed : ℕ} (h : PutReady s st
   pub list-put : (s₁ s₂ s₃ : List ℕ) (end last : ℕ) → s₁ ≡ sets s (movedTo next count renewed) (take behind (drop next s)) → (end ≡ start + length list) × (s₂ ≡ sets s₁ start list)
       → last ≡ end + behind → s₃ ≡ zeroed last (pairSize limits) s₂
       → (last ≡ length (withList s start count used list)) × (s₃ ≡ filled (pairSize limits) s (withList s start count used list))
-  unfolding zeroed filled
   list-put s₁ s₂ s₃ end last e₁ e₂ el e₃ =
       let t : List ℕ = take behind (drop next s) in
       let lt : length t ≡ behind = part-long room-ready in
@@ -75,6 +75,6 @@ module _ {s list : List ℕ} {start count used renewed : ℕ} (h : PutReady s st
       let c : List ℕ = withList s start count used list in
       let f : s₂ ≡ c ++ drop (end + length t) s = f₂ ∙ rw (append-assoc (take start s) (list ++ t) (drop (end + length t) s), append-assoc list t (drop (end + length t) s)) in
       let lc : length c ≡ last = rw (length-append (take start s) (list ++ t), length-append list t, length-take-le start s (omega (arith, e₂ .0))) (omega (arith, e₂ .0)) in
-      let b : drop (pairSize limits) s₂ ≡ drop (pairSize limits) s =
-      ap (drop (pairSize limits)) (e₂ .1) ∙ drop-sets (pairSize limits) s₁ start list (omega (arith, e₂ .0, h .new, h .size)) ∙ ap (drop (pairSize limits)) f₁ ∙ drop-sets (pairSize limits) s end t (omega (arith, e₂ .0, h .new, h .size)) in
-      (sym lc, e₃ ∙ rw (b, lc, f, take-at c (drop (end + length t) s) last lc))
+      let m : end + length t ≡ last = omega arith in
+      let u : s₂ ≡ take last c ++ drop last s = f ∙ rw (m, take-all last c (omega arith)) in
+      (sym lc, filled-is c s s₂ s₃ last (pairSize limits) (sym lc) (omega (arith, e₂ .0, h .new, h .size)) (h .room) u e₃)

@@ -29,9 +29,8 @@ use Rattle.sheet.specs.Readers.{rulesOf, sectionHeard, SectionPlace, SectionPla
 use Rattle.sheet.specs.declared.Section.{Section}
 use Rattle.sheet.specs.declared.Section.the-variants as S
 use Rattle.sheet.specs.declared.OrderParts.the-variants.{Parts}
-use Rattle.sheet.proofs.Outcomes.{faultless}
 use Rattle.sheet.proofs.Sections.{section-back}
-use Rattle.sheet.proofs.Orders.{ListFits, faultless-fits, order-again}
+use Rattle.sheet.proofs.Orders.{ListFits, order-again}
 use Rattle.sheet.proofs.Accepted.{PairAccepted}
 use Rattle.draft.specs.Arounds.{runSize, GroupsHeld, slotsAround, Placed}
 use Rattle.draft.specs.declared.Around.{Around}
@@ -65,20 +64,11 @@ module _ {s : List ℕ} {n m middle third boxes : ℕ} (a : PairAccepted s n m m
       let w = a .place .lists .ownEnd in
       (l, omega arith, omega (arith, a .place .lists .gateLimit, a .place .lists .ownLimit), omega (arith, a .place .end))
 
-  gate-fits : ListFits (o .gate)
-  gate-fits = faultless-fits (limits .gate) (o .gate) (omega arith) (a .good .gate)
-
-  own-fits : ListFits (o .own)
-  own-fits = faultless-fits (limits .own) (o .own) (omega arith) (a .good .own)
-
-  gate-counted : length (o .gate) ≡ n
-  gate-counted = rulesIn-length n (drop countSize s)
-
-  own-counted : length (o .own) ≡ m
-  own-counted = rulesIn-length m (drop countSize (drop middle s))
+  known : revised.ListsKnown o n m
+  known = revised.lists-known a
 
   pub gate-some : (1 ≤ n) × (n ≤ limits .own)
-  gate-some = (omega (arith, faultless (limits .gate) (o .gate) (a .good .gate) .few, gate-counted), omega (arith, a .place .lists .gateLimit))
+  gate-some = (known .gateSome, omega (arith, a .place .lists .gateLimit))
 
   groups-held : GroupsHeld (drop (third + countSize) s) (denies (rulesOf n s))
   groups-held =
@@ -105,7 +95,7 @@ module _ {s : List ℕ} {n m middle third boxes : ℕ} (a : PairAccepted s n m m
     o′ = newOrder (editOf q) o
 
     pub gate-refused : {order order′ : List ℕ} (f : Refusal) → ListChanged (changedBytes (take third s) n place change new) order (Refused f) order′ → editedOf limits s q ≡ refused (numberOf f)
-    gate-refused f x = revised.revised-refused a 0 place change new refl n gate-counted (take third s) f x
+    gate-refused f x = revised.revised-refused a 0 place change new refl n (known .gateCount) (take third s) f x
 
     module _ {order order′ : List ℕ} {end : ℕ} (x : ListChanged (changedBytes (take third s) n place change new) order (Length end) order′) (roomy : orderSize limits + recordSize ≤ length order) where
       d : ChangeDone (take third s) n place change new order order′ end
@@ -115,12 +105,12 @@ module _ {s : List ℕ} {n m middle third boxes : ℕ} (a : PairAccepted s n m m
       t = take end order′
 
       new-fits : ListFits l′
-      new-fits = changed-fits place change new (o .gate) (d .whole) whole (gate-fits .rules) (omega (arith, gate-counted, a .place .lists .gateLimit))
+      new-fits = changed-fits place change new (o .gate) (d .whole) whole (known .gate .rules) (omega (arith, known .gateCount, a .place .lists .gateLimit))
 
       -- the new order sheet is that of the new lists
       bytes-are : t ≡ listBytes l′ ++ listBytes (o .own)
       unfolding orderBytes
-      bytes-are = d .bytes ∙ list-spliced (listBytes (o .own)) (take third s) new (o .gate) n place change (gate-fits .rules) gate-counted (sym (a .listsBytes)) (d .found) (d .whole) whole
+      bytes-are = d .bytes ∙ list-spliced (listBytes (o .own)) (take third s) new (o .gate) n place change (known .gate .rules) (known .gateCount) (sym (a .listsBytes)) (d .found) (d .whole) whole
 
       pub gate-end : end ≤ length order
       gate-end = d .inside
@@ -131,7 +121,7 @@ module _ {s : List ℕ} {n m middle third boxes : ℕ} (a : PairAccepted s n m m
 
       pub gate-faulty : {r : Section} → SectionRead (limits .gate) t r → (f : Refusal) → r ≡ S.Fault f → editedOf limits s q ≡ refused (numberOf f)
       unfolding sectionHeard
-      gate-faulty y f e = revised.revised-faulty a 0 place change new refl n gate-counted (d .found) (d .whole) (a .good .gate) _ (numberOf f) (sym reads ∙ sym (y .says) ∙ ap (sectionHeard t) e)
+      gate-faulty y f e = revised.revised-faulty a 0 place change new refl n (known .gateCount) (d .found) (d .whole) (a .good .gate) _ (numberOf f) (sym reads ∙ sym (y .says) ∙ ap (sectionHeard t) e)
 
       module _ {r : Section} (y : SectionRead (limits .gate) t r) (n′ next : ℕ) (e : r ≡ S.Rules n′ next) where
         clean : (listRefusal (limits .gate) l′ ≡ 0) × (reading l′ (listBytes (o .own)) ≡ reading (rulesOf n′ t) (drop next t))
@@ -151,13 +141,13 @@ module _ {s : List ℕ} {n m middle third boxes : ℕ} (a : PairAccepted s n m m
         own-new : rulesOf m (drop (listSize n′) t) ≡ o .own
         own-new =
             let e : drop next t ≡ listBytes (o .own) = λ i. sym (clean .1) i .rest in
-            ap (λ (j : ℕ). rulesOf m (drop j t)) (sym (placed .end)) ∙ ap (rulesOf m) e ∙ ap (λ (j : ℕ). rulesOf j (listBytes (o .own))) (sym own-counted) ∙ list-rules (o .own) (own-fits .rules)
+            ap (λ (j : ℕ). rulesOf m (drop j t)) (sym (placed .end)) ∙ ap (rulesOf m) e ∙ ap (λ (j : ℕ). rulesOf j (listBytes (o .own))) (sym (known .ownCount)) ∙ list-rules (o .own) (known .own .rules)
 
         lists-new : listsOf n′ m (listSize n′) t ≡ o′
         lists-new = rw (rules-new, own-new)
 
         long-is : length t ≡ listSize n′ + listSize m
-        long-is = ap length bytes-are ∙ length-append (listBytes l′) (listBytes (o .own)) ∙ omega (arith, listBytes-length l′ (new-fits .rules), count-is, listBytes-length (o .own) (own-fits .rules), own-counted)
+        long-is = ap length bytes-are ∙ length-append (listBytes l′) (listBytes (o .own)) ∙ omega (arith, listBytes-length l′ (new-fits .rules), count-is, listBytes-length (o .own) (known .own .rules), known .ownCount)
 
         order-read : OrderRead t (Parts n′ m (listSize n′))
         unfolding orderHeard OrderPlaced orderBytes
@@ -167,7 +157,7 @@ module _ {s : List ℕ} {n m middle third boxes : ℕ} (a : PairAccepted s n m m
         }
 
         there : place + out k ≤ length (o .gate)
-        there = omega (arith, taken-is change new, d .found, gate-counted)
+        there = omega (arith, taken-is change new, d .found, known .gateCount)
 
         pub gate-places : (listSize n′ ≤ length t) × (place + takenBy change ≤ n) × (place + putBy change ≤ n′)
         gate-places = (omega (arith, long-is), d .found, omega (arith, count-is, changed-length place k (o .gate) there, taken-is change new, put-is change new, there))
@@ -190,7 +180,7 @@ module _ {s : List ℕ} {n m middle third boxes : ℕ} (a : PairAccepted s n m m
 
         edited-is : editedOf limits s q ≡ slotted (listsOf n′ m (listSize n′) t) (slotsAround v (drop (third + countSize) s) (drop countSize t))
         edited-is =
-            revised.revised-slotted a 0 place change new refl n gate-counted (d .found) (d .whole) (a .good .gate) (clean .0)
+            revised.revised-slotted a 0 place change new refl n (known .gateCount) (d .found) (d .whole) (a .good .gate) (clean .0)
             ∙ rw (lists-new, slots-are)
 
         module _ (sheet : List ℕ) (used : ℕ) (is : s ≡ take used sheet) (inside : used ≤ length sheet) (v′ : Around) (same : v′ ≡ v) where

@@ -27,8 +27,7 @@ use Rattle.groups.specs.Worked.{workSize}
 use Rattle.sheet.specs.Orders.{orderBytes, gateSize, listIn}
 use Rattle.sheet.specs.Pairs.{pairBytes, pairSize}
 use Rattle.sheet.specs.Readers.{rulesOf, pairOf}
-use Rattle.sheet.proofs.Outcomes.{faultless}
-use Rattle.sheet.proofs.Orders.{ListFits, faultless-fits, list-back}
+use Rattle.sheet.proofs.Orders.{ListFits, list-back}
 use Rattle.sheet.proofs.Pairs.{denies-most}
 use Rattle.sheet.proofs.Accepted.{PairAccepted, ListAccepted}
 use Rattle.planner.specs.Steps.{Writes, slotted}
@@ -47,27 +46,21 @@ module _ {s : List ℕ} {n m middle third boxes : ℕ} (a : PairAccepted s n m m
   abbrev o : Order
   o = p .order
 
-  gate-fits : ListFits (o .gate)
-  gate-fits = faultless-fits (limits .gate) (o .gate) (omega arith) (a .good .gate)
-
-  own-fits : ListFits (o .own)
-  own-fits = faultless-fits (limits .own) (o .own) (omega arith) (a .good .own)
-
-  own-counted : length (o .own) ≡ m
-  own-counted = rulesIn-length m (drop countSize (drop middle s))
+  known : revised.ListsKnown o n m
+  known = revised.lists-known a
 
   gate-long : length (listBytes (o .gate)) ≡ middle
-  gate-long = omega (arith, listBytes-length (o .gate) (gate-fits .rules), rulesIn-length n (drop countSize s), a .place .lists .gateEnd)
+  gate-long = omega (arith, listBytes-length (o .gate) (known .gate .rules), known .gateCount, a .place .lists .gateEnd)
 
   own-long : length (listBytes (o .own)) ≡ listSize m
-  own-long = omega (arith, listBytes-length (o .own) (own-fits .rules), own-counted)
+  own-long = omega (arith, listBytes-length (o .own) (known .own .rules), known .ownCount)
 
   long : length s ≡ used
   long = ap length is ∙ length-take-le used sheet inside
 
   pub own-there : (1 ≤ m) × (m ≤ limits .own) × (middle ≤ third) × (third ≤ length sheet)
   own-there = (
-    omega (arith, faultless (limits .own) (o .own) (a .good .own) .few, own-counted),
+    known .ownSome,
     a .place .lists .ownLimit,
     omega (arith, a .place .lists .ownEnd),
     omega (arith, a .place .lists .inside, long),
@@ -99,7 +92,7 @@ module _ {s : List ℕ} {n m middle third boxes : ℕ} (a : PairAccepted s n m m
     omega (arith, a .place .lists .inside, long),
     omega (arith, a .place .end, long),
     omega (arith, a .place .lists .gateEnd, a .place .lists .gateLimit),
-    omega (arith, denies-most (o .gate), rulesIn-length n (drop countSize s), a .place .lists .gateLimit),
+    omega (arith, denies-most (o .gate), known .gateCount, a .place .lists .gateLimit),
   )
 
   module _ (place : ℕ) (change : Change) (new : List ℕ) (whole : Each Byte new) where
@@ -115,7 +108,7 @@ module _ {s : List ℕ} {n m middle third boxes : ℕ} (a : PairAccepted s n m m
     pub own-refused : {w w′ : List ℕ} (f : Refusal) → ListChanged (changedBytes (listBytes (o .own)) m place change new) w (Refused f) w′
         → (editedOf limits s q ≡ refused (numberOf f)) × (drop (workSize limits) w′ ≡ drop (workSize limits) w)
     own-refused f x = (
-      revised.revised-refused a 1 place change new refl m own-counted (listBytes (o .own)) f x,
+      revised.revised-refused a 1 place change new refl m (known .ownCount) (listBytes (o .own)) f x,
       ap (drop (workSize limits)) (change-refused {A = ℕ} (accepted 0) (listBytes (o .own)) m place change new f x .1),
     )
 
@@ -130,19 +123,19 @@ module _ {s : List ℕ} {n m middle third boxes : ℕ} (a : PairAccepted s n m m
       own-beyond = ap (drop (workSize limits)) (d .result) ∙ drop-sets (workSize limits) w 0 (newBytes (listBytes (o .own)) m place change new) (omega (arith, d .long, d .short, own-long, a .place .lists .ownLimit))
 
       new-fits : ListFits l′
-      new-fits = changed-fits place change new (o .own) (d .whole) whole (own-fits .rules) (omega (arith, own-counted, a .place .lists .ownLimit))
+      new-fits = changed-fits place change new (o .own) (d .whole) whole (known .own .rules) (omega (arith, known .ownCount, a .place .lists .ownLimit))
 
       -- the new B, and what reading it gives
       bytes-are : take end w′ ≡ listBytes l′
       bytes-are =
-          d .bytes ∙ list-spliced [] (listBytes (o .own)) new (o .own) m place change (own-fits .rules) own-counted (sym (append-none (listBytes (o .own)))) (d .found) (d .whole) whole
+          d .bytes ∙ list-spliced [] (listBytes (o .own)) new (o .own) m place change (known .own .rules) (known .ownCount) (sym (append-none (listBytes (o .own)))) (d .found) (d .whole) whole
           ∙ append-none (listBytes l′)
 
       reads : listIn (limits .own) (take end w′) ≡ unless (listRefusal (limits .own) l′) l′
       reads = ap (listIn (limits .own)) bytes-are ∙ list-back (limits .own) l′ new-fits
 
       pub own-faulty : (f : Refusal) → listIn (limits .own) (take end w′) ≡ refused (numberOf f) → editedOf limits s q ≡ refused (numberOf f)
-      own-faulty f e = revised.revised-faulty a 1 place change new refl m own-counted (d .found) (d .whole) (a .good .own) l′ (numberOf f) (sym reads ∙ e)
+      own-faulty f e = revised.revised-faulty a 1 place change new refl m (known .ownCount) (d .found) (d .whole) (a .good .own) l′ (numberOf f) (sym reads ∙ e)
 
       module _ {m′ next : ℕ} (b : ListAccepted (limits .own) (take end w′) m′ next) where
         clean : (listRefusal (limits .own) l′ ≡ 0) × (l′ ≡ rulesOf m′ (take end w′))
@@ -158,7 +151,7 @@ module _ {s : List ℕ} {n m middle third boxes : ℕ} (a : PairAccepted s n m m
         edited-is : editedOf limits s q ≡ unless (given (ltb (limits .total) (boxes + m′)) 7) p′
         unfolding slotted room work
         edited-is =
-            revised.revised-slotted a 1 place change new refl m own-counted (d .found) (d .whole) (a .good .own) (clean .0)
+            revised.revised-slotted a 1 place change new refl m (known .ownCount) (d .found) (d .whole) (a .good .own) (clean .0)
             ∙ rw (kept-over (limits .pieces) (p .groups), kept-boxes (p .groups), count-is, ← (a .place .boxesAre))
 
         pub own-seven : limits .total < boxes + m′ → editedOf limits s q ≡ refused 7
@@ -172,8 +165,8 @@ module _ {s : List ℕ} {n m middle third boxes : ℕ} (a : PairAccepted s n m m
           own-put =
               let l = sheet-long in
               let k = few change in
-              let c = changed-length place (kindOf change new) (o .own) (omega (arith, taken-is change new, d .found, own-counted)) in
-              let e : m′ + takenBy change ≡ m + putBy change = omega (arith, count-is, own-counted, taken-is change new, put-is change new, d .found) in
+              let c = changed-length place (kindOf change new) (o .own) (omega (arith, taken-is change new, d .found, known .ownCount)) in
+              let e : m′ + takenBy change ≡ m + putBy change = omega (arith, count-is, known .ownCount, taken-is change new, put-is change new, d .found) in
               record {
                 size = sym (b .place .whole) ∙ b .place .end;
                 more = omega (arith, k .0, k .1);

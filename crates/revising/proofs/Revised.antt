@@ -10,17 +10,20 @@ use lib.ListN.{length, take, drop}
 use lib.Seq.{take-add, drop-at, length-take-le}
 use borrow.Author.Tests.{le-leb}
 use Rattle.lists.proofs.Lists.{three-parts}
-use Rattle.policy.specs.Fields.{limits}
+use Rattle.policy.specs.Fields.{countSize, limits}
 use Rattle.policy.specs.Rules.{Rule, complete}
 use Rattle.policy.specs.Refusals.{refused, test, unless, given, orElse, faults, numberOf}
-use Rattle.policy.specs.Move.{room, Pair, badCount, listRefusal}
+use Rattle.policy.specs.Move.{room, Order, Pair, badCount, listRefusal}
 use Rattle.policy.specs.Edit.{Kind, out, put, front, gone, back, Edit, target, newList, newOrder, newSlots, edited, changeRefusal}
 use Rattle.policy.specs.declared.Answer.the-variants.{Refused}
 use Rattle.policy.specs.declared.Refusal.{Refusal}
 use Rattle.policy.proofs.Numbers.{orElse-assoc}
 use Rattle.policy.proofs.Edits.{list-accepted, changed-faults}
+use Rattle.wire.proofs.Records.{rulesIn-length}
 use Rattle.sheet.specs.Pairs.{pairIn}
-use Rattle.sheet.specs.Readers.{pairOf}
+use Rattle.sheet.specs.Readers.{rulesOf, listsOf, pairOf}
+use Rattle.sheet.proofs.Outcomes.{faultless}
+use Rattle.sheet.proofs.Orders.{ListFits, faultless-fits}
 use Rattle.sheet.proofs.Accepted.{PairAccepted}
 use Rattle.planner.specs.Steps.{slotted, partOf}
 use Rattle.planner.specs.Edits.{Asked, asked, editOf, wholeRecord, changeOf, editedOf}
@@ -58,6 +61,28 @@ change-chain e p clean =
 pub pair-faulty : (s : List ℕ) (q : Asked) (k : ℕ) → pairIn limits s ≡ refused k → editedOf limits s q ≡ refused k
 unfolding editedOf
 pair-faulty s q k e = rw e
+
+-- What is known of the two lists once a sheet is read well.
+pub record ListsKnown (o : Order) (n m : ℕ) : Type 0 where
+  pub gate : ListFits (o .gate)
+  pub own : ListFits (o .own)
+  pub gateCount : length (o .gate) ≡ n
+  pub ownCount : length (o .own) ≡ m
+  pub gateSome : 1 ≤ n
+  pub ownSome : 1 ≤ m
+
+pub lists-known : {s : List ℕ} {n m middle third boxes : ℕ} → PairAccepted s n m middle third boxes → ListsKnown (listsOf n m middle s) n m
+lists-known {s} {n} {m} {middle} a =
+    let g : length (rulesOf n s) ≡ n = rulesIn-length n (drop countSize s) in
+    let w : length (rulesOf m (drop middle s)) ≡ m = rulesIn-length m (drop countSize (drop middle s)) in
+    record {
+      gate = faultless-fits (limits .gate) (rulesOf n s) (omega arith) (a .good .gate);
+      own = faultless-fits (limits .own) (rulesOf m (drop middle s)) (omega arith) (a .good .own);
+      gateCount = g;
+      ownCount = w;
+      gateSome = omega (arith, faultless (limits .gate) (rulesOf n s) (a .good .gate) .few);
+      ownSome = omega (arith, faultless (limits .own) (rulesOf m (drop middle s)) (a .good .own) .few);
+    }
 
 module _ {s : List ℕ} {n m middle third boxes : ℕ} (a : PairAccepted s n m middle third boxes) (list place : ℕ) (change : Change) (new : List ℕ) (there : leb list 1 ≡ true) where
   abbrev p : Pair
