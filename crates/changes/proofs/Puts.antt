@@ -1,53 +1,19 @@
 -- A changed list put in the place of the old one: what is moved and what is left. Assumes nothing.
 use mathlib.Core.Path.{_≡_, ap, sym, _∙_}
 use mathlib.Core.List.{List, _++_, append-assoc}
-use Prim.Native.Nat.{ℕ, _+_, _-_, _≤_, _<_}
+use Prim.Native.Nat.{ℕ, _+_, _-_, _≤_}
 use native.Mathlib.Omega.{arith}
-use lib.ListN.{length, take, drop, length-append, length-drop, take-append-drop}
-use lib.Seq.{sets, take-all, drop-at, drop-drop, take-add, length-sets, length-take-le}
+use lib.ListN.{length, take, drop, length-append}
+use lib.Seq.{sets, take-all, drop-at, length-sets, length-take-le}
 use Rattle.lists.proofs.Lists.{take-sets, sets-parts}
-use Rattle.lists.proofs.Parts.{tail-whole, tail-back}
-use Rattle.policy.specs.Fields.{recordSize, limits}
-use Rattle.wire.specs.Buffers.{zeroed, filled, copiedDown, copiedUp}
+use Rattle.policy.specs.Fields.{limits}
+use Rattle.wire.specs.Buffers.{zeroed, filled}
 use Rattle.wire.specs.Lists.{listSize}
 use Rattle.wire.proofs.Buffers.{filled-is}
 use Rattle.sheet.specs.Pairs.{pairSize}
-use Rattle.changes.specs.Puts.{movedTo, RoomReady, withList, PutReady}
-
-module _ {s : List ℕ} {next behind count renewed : ℕ} (h : RoomReady s next behind count renewed) where
-  abbrev part : List ℕ
-  part = take behind (drop next s)
-
-  part-long : length part ≡ behind
-  part-long = length-take-le behind (drop next s) (rw length-drop (omega (arith, h .old)))
-
-  pub room-up : count < renewed → (y : List ℕ) → y ≡ copiedUp recordSize behind (take (length s - next) (drop next s))
-      → take next s ++ (y ++ drop (length s - next) (drop next s)) ≡ sets s (movedTo next count renewed) part
-  unfolding copiedUp
-  room-up k y ey =
-      let e : movedTo next count renewed ≡ next + recordSize = omega (arith, h .more, h .front) in
-      let i : next + (recordSize + behind) ≡ next + recordSize + length part = omega (arith, part-long) in
-      let d : drop (recordSize + behind) (drop next s) ≡ drop (next + recordSize + length part) s = drop-drop (recordSize + behind) next s ∙ ap (λ (j : ℕ). drop j s) i in
-      tail-back s next (omega (arith, h .old)) y
-      ∙ rw (ey, tail-whole s next (omega (arith, h .old)), e, d, sets-parts s (next + recordSize) part (omega (arith, part-long, h .new)), take-add next recordSize s) (sym (append-assoc (take next s) (take recordSize (drop next s)) (part ++ drop (next + recordSize + length part) s)))
-
-  pub room-down : renewed < count → (y : List ℕ) → y ≡ copiedDown recordSize 0 behind (take (length s - (next - recordSize)) (drop (next - recordSize) s))
-      → take (next - recordSize) s ++ (y ++ drop (length s - (next - recordSize)) (drop (next - recordSize) s)) ≡ sets s (movedTo next count renewed) part
-  unfolding copiedDown
-  room-down k y ey =
-      let e : movedTo next count renewed ≡ next - recordSize = omega (arith, h .less, h .front) in
-      let z : behind - 0 ≡ behind = omega arith in
-      let i : next - recordSize + (recordSize + 0) ≡ next = omega (arith, h .front) in
-      let f : drop (recordSize + 0) (drop (next - recordSize) s) ≡ drop next s = drop-drop (recordSize + 0) (next - recordSize) s ∙ ap (λ (j : ℕ). drop j s) i in
-      let d : drop behind (drop (next - recordSize) s) ≡ drop (next - recordSize + length part) s = drop-drop behind (next - recordSize) s ∙ ap (λ (j : ℕ). drop (next - recordSize + j) s) (sym part-long) in
-      tail-back s (next - recordSize) (omega (arith, h .old)) y
-      ∙ rw (ey, tail-whole s (next - recordSize) (omega (arith, h .old)), e, z, f, d, sets-parts s (next - recordSize) part (omega (arith, part-long, h .old)))
-
-  pub room-kept : renewed ≤ count → count ≤ renewed → s ≡ sets s (movedTo next count renewed) part
-  room-kept j k =
-      let e : movedTo next count renewed ≡ next = omega arith in
-      let d : drop (next + length part) s ≡ drop behind (drop next s) = ap (λ (n : ℕ). drop (next + n) s) part-long ∙ sym (drop-drop behind next s) in
-      rw (e, sets-parts s next part (omega (arith, part-long, h .old)), d, take-append-drop behind (drop next s)) (sym (take-append-drop next s))
+use Rattle.draft.specs.Sheets.{movedTo, RoomReady}
+use Rattle.draft.proofs.Rooms.{part-long}
+use Rattle.changes.specs.Puts.{withList, PutReady}
 
 module _ {s list : List ℕ} {start count used renewed : ℕ} (h : PutReady s start count used list renewed) where
   abbrev next : ℕ

@@ -2,23 +2,11 @@
 -- nothing.
 use mathlib.Core.Path.{_≡_}
 use mathlib.Core.List.{List, _++_}
-use Prim.Native.Nat.{ℕ, _+_, _*_, _-_, _≤_}
+use Prim.Native.Nat.{ℕ, _+_, _-_, _≤_}
 use lib.ListN.{length, take, drop}
-use Rattle.policy.specs.Fields.{recordSize, limits}
+use Rattle.policy.specs.Fields.{limits}
 use Rattle.wire.specs.Lists.{listSize}
 use Rattle.sheet.specs.Pairs.{pairSize}
-
--- Where the bytes behind a list stand once it has one rule more, as many or one less.
-abbrev pub movedTo : ℕ → ℕ → ℕ → ℕ
-movedTo next count renewed = next + recordSize * renewed - recordSize * count
-
--- What moving them asks for: the counts differ by one at most, and there is room at both places.
-pub record RoomReady (sheet : List ℕ) (next behind count renewed : ℕ) : Type 0 where
-  pub more : renewed ≤ count + 1
-  pub less : count ≤ renewed + 1
-  pub front : recordSize * count ≤ next
-  pub old : next + behind ≤ length sheet
-  pub new : movedTo next count renewed + behind ≤ length sheet
 
 -- The bytes up to `used` with a list in the place of the one of `count` rules at `start`.
 abbrev pub withList : List ℕ → ℕ → ℕ → ℕ → List ℕ → List ℕ

@@ -1,5 +1,6 @@
 // What an edit changes: the bytes of a sheet with one of its lists changed, and where the groups of the new A come from.
 use draft::Around;
+use draft::kept;
 use planner::Change;
 use policy::Answer;
 use policy::COUNT_BYTES;
@@ -8,7 +9,7 @@ use policy::Refusal;
 use sheet::PAIR_BYTES;
 ghost use mathlib.Core.Path.{_≡_};
 ghost use Prim.Native.Nat.{_+_, _*_, _≤_, _<_};
-ghost use lib.ListN.{length, take, drop};
+ghost use lib.ListN.{length, drop};
 ghost use lib.Seq.{sets};
 ghost use Rattle.policy.specs.Fields.{countSize, recordSize, limits};
 ghost use Rattle.policy.specs.Rules.{anyAllow};
@@ -18,7 +19,7 @@ ghost use Rattle.sheet.specs.Pairs.{pairSize};
 ghost use Rattle.sheet.specs.Readers.{rulesOf};
 ghost use Rattle.planner.specs.Edits.{wholeRecord};
 ghost use Rattle.changes.specs.Changes.{takenBy, putBy, spliced, changedBytes, ListChanged};
-ghost use Rattle.changes.specs.Puts.{movedTo, RoomReady, withList, PutReady};
+ghost use Rattle.changes.specs.Puts.{withList, PutReady};
 ghost use Rattle.changes.specs.Drafts.{aroundOf};
 
 // How many rules a change takes out at its place, and how many it puts in.
@@ -92,22 +93,6 @@ pub fn change_list(
     Answer::Length(splice(out, s, left + put, place, taken, &new[..size]))
 }
 
-// What stands behind a list, so many bytes from `next` on, moved to where the changed list ends. One record more or less is a
-// distance that the compiler knows, so that it moves the bytes in one go.
-fn make_room(sheet: &mut [u8], next: usize, behind: usize, count: usize, renewed: usize)
-    requires { ⌜ RoomReady (now sheet) next behind count renewed ⌝ }
-    ensures { λ r. ⌜ now (sheet .exit) ≡ sets (now (sheet .entry)) (movedTo next count renewed) (take behind (drop next (now (sheet .entry)))) ⌝ }
-{
-    if count < renewed {
-        wire::copy_up(&mut sheet[next..], RECORD_BYTES, behind);
-        return;
-    }
-    if renewed < count {
-        wire::copy_down(&mut sheet[next - RECORD_BYTES..], RECORD_BYTES, 0, behind);
-        return;
-    }
-}
-
 // The changed list put in the place of the one of `count` rules at `start`, what stands behind that up to `used` moved along, and
 // zeros behind it; where it ends.
 pub fn put_list(
@@ -123,7 +108,7 @@ pub fn put_list(
 {
     let next = start + (COUNT_BYTES + RECORD_BYTES * count);
     let behind = used - next;
-    make_room(sheet, next, behind, count, renewed);
+    kept::make_room(sheet, next, behind, count, renewed);
     let end = wire::put_bytes(sheet, start, list);
     let last = end + behind;
     wire::zero(sheet, last, PAIR_BYTES);

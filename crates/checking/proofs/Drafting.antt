@@ -62,7 +62,7 @@ module _ {s : List ℕ} {n m middle third boxes : ℕ} (a : PairAccepted s n m m
       draft-light = drawn-light drafting
 
       pub draft-boxes : b ≡ length (together (moved o .groups))
-      draft-boxes = drawn-boxes drafting
+      draft-boxes = let e = drawn-boxes drafting in omega arith
 
       module _ (h : b + m ≤ limits .total) where
         -- a move of the two lists is accepted

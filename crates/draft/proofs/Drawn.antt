@@ -1,5 +1,5 @@
--- What a draft of all slots of A says: 6; or how many boxes there are and, while they are within the total, that its bytes are
--- the groups' bytes. Assumes nothing.
+-- What a draft says of the slots behind groups of so many boxes: 6; or how many boxes there are and, while they are within the
+-- total, that its bytes are the groups' bytes. Assumes nothing.
 use mathlib.Core.Path.{_≡_, sym}
 use mathlib.Core.List.{List}
 use mathlib.Core.Bool.{true, false}
@@ -13,22 +13,24 @@ use Rattle.policy.specs.Move.{Slot, boxesOf, together, anyOver}
 use Rattle.sheet.specs.Pairs.{groupsBytes}
 use Rattle.sheet.proofs.Pairs.{ProperGroup}
 use Rattle.draft.specs.Drafts.{slotGroups, Drawn, Drafting, draftSize}
+use Rattle.draft.specs.Arounds.{Told, Behind}
+use Rattle.draft.specs.declared.Drafted.{Drafted}
 use Rattle.draft.specs.declared.Drafted.the-variants.{Groups, TooManyPieces}
 use Rattle.draft.proofs.Laid.{groups-length}
 
-module _ {l : List Slot} {draft draft′ : List ℕ} where
-  pub drawn-over : Drafting limits l draft 0 0 TooManyPieces draft′ → anyOver (limits .pieces) l ≡ true
+module _ {l : List Slot} {draft draft′ : List ℕ} {front : ℕ} where
+  pub drawn-over : Drafting limits l draft 0 front TooManyPieces draft′ → anyOver (limits .pieces) l ≡ true
   unfolding Drawn
   drawn-over x = x .drawn
 
-  module _ {boxes end : ℕ} (x : Drafting limits l draft 0 0 (Groups boxes end) draft′) where
+  module _ {boxes end : ℕ} (x : Drafting limits l draft 0 front (Groups boxes end) draft′) where
     pub drawn-light : anyOver (limits .pieces) l ≡ false
     unfolding Drawn
     drawn-light = x .drawn .0
 
-    pub drawn-boxes : boxes ≡ length (together (slotGroups l))
+    pub drawn-boxes : boxes ≡ front + length (together (slotGroups l))
     unfolding Drawn
-    drawn-boxes = let e = x .drawn .1 in omega arith
+    drawn-boxes = x .drawn .1
 
     module _ (few : boxes ≤ limits .total) (proper : Each ProperGroup (slotGroups l)) (short : length l ≤ limits .gate) (room : draftSize limits ≤ length draft) where
       bytes-drawn : (end ≡ 0 + length (groupsBytes (slotGroups l))) × (draft′ ≡ sets draft 0 (groupsBytes (slotGroups l)))
@@ -44,3 +46,12 @@ module _ {l : List Slot} {draft draft′ : List ℕ} where
           let g : List ℕ = groupsBytes (slotGroups l) in
           let z : 0 + length g ≡ length g = omega arith in
           rw (e .1, sets-eq g draft 0 (omega (arith, drawn-end)), e .0) (take-at g (drop (0 + length g) draft) (0 + length g) (sym z))
+
+-- all of it, once the groups are known to be proper
+pub drawn-behind : {l : List Slot} {draft draft′ : List ℕ} {front : ℕ} (r : Drafted) → Drafting limits l draft 0 front r draft′ → length draft′ ≡ length draft
+    → Each ProperGroup (slotGroups l) → length l ≤ limits .gate → draftSize limits ≤ length draft → Behind l front r draft′
+unfolding Told
+drawn-behind TooManyPieces x k proper short room = record { told = drawn-over x }
+drawn-behind (Groups b n) x k proper short room = record {
+  told = (drawn-light x, drawn-boxes x, λ t. (omega (arith, drawn-end x t proper short room), drawn-content x t proper short room));
+}

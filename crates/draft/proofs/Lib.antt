@@ -4,4 +4,4 @@ pub mod Turns
 pub mod Laid
 pub mod Drawn
 pub mod Runs
-pub mod Arounds
+pub mod Rooms

@@ -1,13 +1,14 @@
--- Runs of groups one behind another in bytes: their boxes counted, a front of them, and such groups kept in a draft.
+-- Runs of groups one behind another in bytes: their boxes counted, a front of them, and what stands behind it.
 -- Assumes nothing.
 use mathlib.Core.Path.{_≡_, refl, ap, sym, _∙_}
 use mathlib.Core.List.{List, _∷_, _++_}
 use Prim.Native.Nat.{ℕ, zero, suc, _+_, _*_, _-_, _≤_, _<_}
 use native.Mathlib.Omega.{arith}
-use lib.ListN.{length, take, drop, length-append, take-append-drop}
-use lib.Seq.{sets, drop-drop, take-take, take-add, take-at, drop-at, length-take-le}
+use lib.ListN.{length, take, drop, length-append, length-drop, take-append-drop}
+use lib.Seq.{drop-drop, take-all, take-take, take-at, drop-at}
 use Rattle.lists.specs.Lists.{Each}
 use Rattle.lists.proofs.Lists.{each-take}
+use Rattle.lists.proofs.Parts.{tail-whole}
 use Rattle.policy.specs.Fields.{boxSize, countSize, limits}
 use Rattle.policy.specs.Ranges.{Region}
 use Rattle.policy.specs.Move.{together}
@@ -42,6 +43,40 @@ pub boxes-none : (left : ℕ) (s : List ℕ) → left ≤ 0 → boxesBefore left
 unfolding groupsFrom together
 boxes-none zero s h = refl
 boxes-none (suc left) s h = absurd (omega arith)
+
+-- the groups behind the first ones
+pub boxes-behind : (i j : ℕ) (s : List ℕ) → boxesBefore (i + j) s ≡ boxesBefore i s + boxesBefore j (drop (runSize i s) s)
+boxes-behind zero j s =
+    let z = boxes-none 0 s (omega arith) in
+    let e : zero + j ≡ j = omega arith in
+    let r : runSize 0 s ≡ 0 = omega arith in
+    rw (e, r) (omega arith)
+boxes-behind (suc i) j s =
+    let t : List ℕ = drop (groupSize (countIn s)) s in
+    let e : suc i + j ≡ suc (i + j) = omega arith in
+    let a = boxes-cons (i + j) s in
+    let b = boxes-cons i s in
+    let c = boxes-behind i j t in
+    let r : groupSize (countIn s) + runSize i t ≡ runSize (suc i) s = omega arith in
+    let d : boxesBefore j (drop (runSize i t) t) ≡ boxesBefore j (drop (runSize (suc i) s) s) =
+    ap (boxesBefore j) (drop-drop (runSize i t) (groupSize (countIn s)) s ∙ ap (λ (k : ℕ). drop k s) r) in
+    rw e (omega arith)
+
+-- the same of the part of a buffer that begins behind the first ones
+module _ (earlier gone : ℕ) (s : List ℕ) (there : runSize (earlier + gone) s ≤ length s) (at : ℕ) (is : at ≡ runSize earlier s) where
+  abbrev part : List ℕ
+  part = take (length s - at) (drop at s)
+
+  pub part-inside : at ≤ length s
+  part-inside = omega (arith, boxes-behind earlier gone s)
+
+  pub part-boxes : boxesBefore gone part + boxesBefore earlier s ≡ boxesBefore (earlier + gone) s
+  part-boxes = rw (tail-whole s at part-inside, is) (omega (arith, boxes-behind earlier gone s))
+
+  pub part-there : runSize gone part ≤ length part
+  part-there =
+      let l : length part ≡ length s - at = ap length (tail-whole s at part-inside) ∙ length-drop at s in
+      omega (arith, part-boxes)
 
 -- Groups that are held: a front of them is held too.
 pub groups-count : (n : ℕ) (s : List ℕ) → length (groupsFrom n s) ≡ n
@@ -87,34 +122,8 @@ module _ (i n : ℕ) (s : List ℕ) (upTo : i ≤ n) (held : GroupsHeld s n) whe
         few = omega (arith, held .few);
       }
 
-  -- the bytes behind the front
-  part-bytes : (start end : ℕ) → start ≡ runSize i s → end ≡ runSize n s → take (end - start) (drop start s) ≡ groupsBytes (drop i all)
-  part-bytes start end es ee =
-      let l = run-length i s front-proper in
-      let e = boxes-split in
-      let h = held .there in
-      let k : runSize n s ≡ runSize i s + (runSize n s - runSize i s) = omega arith in
-      let w : take (runSize i s) s ++ take (runSize n s - runSize i s) (drop (runSize i s) s) ≡ groupsBytes (groupsFrom i s) ++ groupsBytes (drop i all) =
-      sym (take-add (runSize i s) (runSize n s - runSize i s) s) ∙ ap (λ (m : ℕ). take m s) (sym k) ∙ both-bytes in
-      let t : length (take (runSize i s) s) ≡ runSize i s = length-take-le (runSize i s) s (omega arith) in
-      rw (es, ee)
-      (sym (drop-at (take (runSize i s) s) (take (runSize n s - runSize i s) (drop (runSize i s) s)) (runSize i s) t)
-      ∙ ap (drop (runSize i s)) w ∙ drop-at (groupsBytes (groupsFrom i s)) (groupsBytes (drop i all)) (runSize i s) l)
-
-  module _ (draft : List ℕ) (at boxes sum : ℕ) (summed : sum ≡ boxes + (boxesBefore n s - boxesBefore i s)) where
-    drawn : (end : ℕ) (last : List ℕ) → (sum ≤ limits .total → (end ≡ at + length (groupsBytes (drop i all))) × (last ≡ sets draft at (groupsBytes (drop i all))))
-        → Drafting limits (keptSlots i n s) draft at boxes (Groups sum end) last
-    unfolding Drawn
-    drawn end last f =
-        let e = boxes-split in
-        let b = kept-boxes (drop i all) in
-        record { drawn = (kept-over (limits .pieces) (drop i all), rw b (omega arith), rw b f) }
-
-    -- more boxes than fit
-    pub kept-past : limits .total < sum → Drafting limits (keptSlots i n s) draft at boxes (Groups sum at) draft
-    kept-past h = drawn at draft (λ t. absurd (omega arith))
-
-    pub kept-put : (start stop end : ℕ) (last : List ℕ) → start ≡ runSize i s → stop ≡ runSize n s
-        → (end ≡ at + length (take (stop - start) (drop start s))) × (last ≡ sets draft at (take (stop - start) (drop start s)))
-        → Drafting limits (keptSlots i n s) draft at boxes (Groups sum end) last
-    kept-put start stop end last es ee f = drawn end last (λ t. rw (part-bytes start stop es ee) at f)
+  -- the bytes behind the front, where nothing stands behind the groups
+  pub held-behind : length s ≡ runSize n s → drop (runSize i s) s ≡ groupsBytes (drop i all)
+  held-behind exact =
+      ap (drop (runSize i s)) (sym (take-all (runSize n s) s (omega arith)) ∙ both-bytes)
+      ∙ drop-at (groupsBytes (groupsFrom i s)) (groupsBytes (drop i all)) (runSize i s) (run-length i s front-proper)

@@ -73,15 +73,3 @@ pub laid-none : (left : ℕ) (s : List ℕ) → left ≤ 0 → Laid left s → l
 unfolding Laid
 laid-none zero s h l = l
 laid-none (suc left) s h l = absurd (omega arith)
-
--- the order copied, the count and the groups behind it, zeros behind them
-pub pair-put : (sheet order c₁ c₂ c₃ last draft : List ℕ) (groups middle end most : ℕ) → middle ≡ 0 + length order → end ≡ middle + countSize + length draft
-    → c₁ ≡ sets sheet 0 order → c₂ ≡ sets c₁ middle (numberBytes countSize groups) → c₃ ≡ sets c₂ (middle + countSize) draft
-    → last ≡ zeroed end most c₃ → end ≤ most → most ≤ length sheet
-    → (end ≡ length (sheetOf order groups draft)) × (last ≡ filled most sheet (sheetOf order groups draft))
-pair-put sheet order c₁ c₂ c₃ last draft groups middle end most m e f g h i u v =
-    let n = numberBytes-length countSize groups in
-    let l : end ≡ length (sheetOf order groups draft) = rw (length-append, length-append) (omega arith) in
-    let s : c₃ ≡ sets sheet 0 (sheetOf order groups draft) =
-    h ∙ rw (g, f, sets-append sheet 0 order (numberBytes countSize groups ++ draft), sets-append (sets sheet 0 order) (0 + length order) (numberBytes countSize groups) draft, n, m) in
-    (l, filled-is (sheetOf order groups draft) sheet c₃ last end most l u v (s ∙ rw l (sym (copied-sets sheet (sheetOf order groups draft) (omega arith)))) i)

@@ -48,11 +48,11 @@ boxes-told true n m e = let z : _≡_ {A = ℕ} 0 1 = cc in absurd (omega arith)
 boxes-told false n m e = (refl, cc)
 
 module _ {rules : List ℕ} {i : ℕ} {w w′ : List ℕ} where
-  worked-over : WorkedOut rules i w TooMany w′ → over (limits .pieces) (startAt i rules) (allowsAt i rules) ≡ true
+  pub worked-over : WorkedOut rules i w TooMany w′ → over (limits .pieces) (startAt i rules) (allowsAt i rules) ≡ true
   unfolding workedOf
   worked-over x = over-told _ _ (x .answer)
 
-  worked-boxes : {n : ℕ} → WorkedOut rules i w (Boxes n) w′
+  pub worked-boxes : {n : ℕ} → WorkedOut rules i w (Boxes n) w′
       → (over (limits .pieces) (startAt i rules) (allowsAt i rules) ≡ false) × (n ≡ length (group (startAt i rules) (allowsAt i rules)))
   unfolding workedOf
   worked-boxes x = boxes-told _ _ _ (x .answer)

@@ -1,11 +1,12 @@
--- A pair sheet put together from the bytes of its order and the draft of its groups. Assumes nothing.
+-- A pair sheet put together from the bytes of its order and of its groups, of which the first may stand in the sheet already.
+-- Assumes nothing.
 use mathlib.Core.List.{List, _++_}
-use Prim.Native.Nat.{ℕ, zero, suc, _≤_}
+use Prim.Native.Nat.{ℕ, zero, suc, _+_, _*_, _-_, _≤_, _<_}
 use mathlib.Core.Path.{_≡_}
 use lib.ListN.{length, drop}
-use Rattle.policy.specs.Fields.{countSize}
+use Rattle.policy.specs.Fields.{countSize, recordSize, limits}
 use Rattle.wire.specs.Numbers.{numberBytes}
-use Rattle.sheet.specs.Pairs.{groupSize}
+use Rattle.sheet.specs.Pairs.{groupSize, pairSize}
 use Rattle.wire.specs.Lists.{countIn}
 
 -- So many groups lie one behind another in these bytes, and nothing else does.
@@ -16,3 +17,28 @@ Laid (suc n) s = (countSize ≤ length s) × (groupSize (countIn s) ≤ length s
 -- The order's bytes, the count of groups, and the groups.
 abbrev pub sheetOf : List ℕ → ℕ → List ℕ → List ℕ
 sheetOf order groups draft = order ++ (numberBytes countSize groups ++ draft)
+
+-- Where the bytes behind a list stand once it has one rule more, as many or one less.
+abbrev pub movedTo : ℕ → ℕ → ℕ → ℕ
+movedTo next count renewed = next + recordSize * renewed - recordSize * count
+
+-- What moving them asks for: the counts differ by one at most, and there is room at both places.
+pub record RoomReady (sheet : List ℕ) (next behind count renewed : ℕ) : Type 0 where
+  pub more : renewed ≤ count + 1
+  pub less : count ≤ renewed + 1
+  pub front : recordSize * count ≤ next
+  pub old : next + behind ≤ length sheet
+  pub new : movedTo next count renewed + behind ≤ length sheet
+
+-- What putting the pair sheet together asks for: the first groups are one record at most from where they go, the others lie in
+-- the bytes handed over, and all of it fits.
+pub record AroundPut (sheet : List ℕ) (from size count : ℕ) (order : List ℕ) (renewed groups rest : ℕ) (behind : List ℕ) : Type 0 where
+  pub more : renewed ≤ count + 1
+  pub less : count ≤ renewed + 1
+  pub front : recordSize * count ≤ from
+  pub old : from + size ≤ length sheet
+  pub moved : length order + countSize ≡ movedTo from count renewed
+  pub laid : Laid rest behind
+  pub few : groups < 65536
+  pub fits : length order + (countSize + (size + length behind)) ≤ pairSize limits
+  pub room : pairSize limits ≤ length sheet

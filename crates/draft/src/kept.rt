@@ -1,20 +1,29 @@
-// Section C of the new A: groups that are kept as they stand, and groups worked out anew between them.
-use crate::Around;
-use crate::Draft;
-use crate::Drafted;
-use crate::draft_groups;
+// Groups that are kept: counted and found in section C, and left in the sheet while the lists before them change.
+use crate::put_groups;
 use policy::BOX_BYTES;
 use policy::COUNT_BYTES;
-use policy::TOTAL_MOST;
+use policy::RECORD_BYTES;
+use sheet::PAIR_BYTES;
 ghost use mathlib.Core.Path.{_≡_};
-ghost use Prim.Native.Nat.{_≤_};
-ghost use lib.ListN.{length};
+ghost use mathlib.Core.List.{_++_};
+ghost use Prim.Native.Nat.{_+_, _≤_};
+ghost use lib.ListN.{length, take, drop};
+ghost use lib.Seq.{sets};
 ghost use Rattle.policy.specs.Fields.{limits};
-ghost use Rattle.draft.specs.Drafts.{Drafting};
-ghost use Rattle.draft.specs.Arounds.{boxesBefore, runSize, Keeping, keptSlots, AroundReady, DraftedAround};
+ghost use Rattle.wire.specs.Buffers.{filled};
+ghost use Rattle.sheet.specs.Pairs.{pairSize};
+ghost use Rattle.draft.specs.Arounds.{boxesBefore, runSize};
+ghost use Rattle.draft.specs.Sheets.{sheetOf, movedTo, RoomReady, AroundPut};
+
+// Where the groups before a place end, where those behind the ones that go begin, and how many boxes go.
+pub struct Gap {
+    pub at: usize,
+    pub next: usize,
+    pub boxes: usize,
+}
 
 // How many boxes the first n groups have.
-fn count_boxes(s: &[u8], n: usize) -> usize
+pub fn count_boxes(s: &[u8], n: usize) -> usize
     requires { ⌜ runSize n (now s) ≤ length (now s) ⌝ }
     ensures { λ r. ⌜ r ≡ boxesBefore n (now (s .entry)) ⌝ }
 {
@@ -30,58 +39,59 @@ fn count_boxes(s: &[u8], n: usize) -> usize
     boxes
 }
 
-// The groups from one place up to another, as they stand, behind what the draft holds, unless the boxes, these among them, are
-// more than fit.
-fn keep(groups: &[u8], from: usize, to: usize, draft: &mut [u8], at: usize, boxes: usize) -> Draft
-    requires { ⌜ Keeping (now groups) from to (now draft) at boxes ⌝ }
-    ensures { λ r. ⌜ Drafting limits (keptSlots from to (now (groups .entry))) (now (draft .entry)) at boxes (Drafted.Groups (r .boxes) (r .end)) (now (draft .exit)) ⌝ }
+// The gap that so many groups behind the first ones leave.
+pub fn find_gap(groups: &[u8], earlier: usize, gone: usize) -> Gap
+    requires { ⌜ runSize (earlier + gone) (now groups) ≤ length (now groups) ⌝ }
+    ensures { λ r. ⌜ (r .at ≡ runSize earlier (now (groups .entry))) × (r .next ≡ runSize (earlier + gone) (now (groups .entry))) × (r .boxes + boxesBefore earlier (now (groups .entry)) ≡ boxesBefore (earlier + gone) (now (groups .entry))) ⌝ }
 {
-    let before = count_boxes(groups, from);
-    let all = count_boxes(groups, to);
-    let sum = boxes + (all - before);
-    if TOTAL_MOST < sum {
-        return Draft {
-            boxes: sum,
-            end: at,
-        };
-    }
-    let start = COUNT_BYTES * from + BOX_BYTES * before;
-    let end = COUNT_BYTES * to + BOX_BYTES * all;
-    let last = wire::put_bytes(draft, at, &groups[start..end]);
-    Draft {
-        boxes: sum,
-        end: last,
+    let front = count_boxes(groups, earlier);
+    let at = COUNT_BYTES * earlier + BOX_BYTES * front;
+    let boxes = count_boxes(&groups[at..], gone);
+    Gap {
+        at,
+        next: at + COUNT_BYTES * gone + BOX_BYTES * boxes,
+        boxes,
     }
 }
 
-// The groups of the new A: kept, worked out anew, kept.
-pub fn draft_around(
-    groups: &[u8],
-    rules: &[u8],
-    around: Around,
-    draft: &mut [u8],
-    work: &mut [u8],
-) -> Drafted
-    requires { ⌜ AroundReady (now groups) (now rules) around (now draft) (now work) ⌝ }
-    ensures { λ r. ⌜ DraftedAround (now (groups .entry)) (now (rules .entry)) around (now (draft .entry)) (now (work .entry)) r (now (draft .exit)) (now (work .exit)) ⌝ }
+// What stands behind a list, so many bytes from `next` on, moved to where the changed list ends. One record more or less is a
+// distance that the compiler knows, so that it moves the bytes in one go.
+pub fn make_room(sheet: &mut [u8], next: usize, behind: usize, count: usize, renewed: usize)
+    requires { ⌜ RoomReady (now sheet) next behind count renewed ⌝ }
+    ensures { λ r. ⌜ now (sheet .exit) ≡ sets (now (sheet .entry)) (movedTo next count renewed) (take behind (drop next (now (sheet .entry)))) ⌝ }
 {
-    let front = keep(groups, 0, around.earlier, draft, 0, 0);
-    match draft_groups(
-        rules,
-        around.place,
-        around.to,
-        draft,
-        front.end,
-        front.boxes,
-        work,
-    ) {
-        Drafted::TooManyPieces => Drafted::TooManyPieces,
-        Drafted::Groups { boxes, end } => {
-            let all = keep(groups, around.later, around.groups, draft, end, boxes);
-            Drafted::Groups {
-                boxes: all.boxes,
-                end: all.end,
-            }
-        }
+    if count < renewed {
+        wire::copy_up(&mut sheet[next..], RECORD_BYTES, behind);
+        return;
     }
+    if renewed < count {
+        wire::copy_down(&mut sheet[next - RECORD_BYTES..], RECORD_BYTES, 0, behind);
+        return;
+    }
+}
+
+// The pair sheet of an order's bytes and so many groups, of which the first `size` bytes stand in the sheet from `from` on, where
+// the A of `count` rules put them, and the rest are handed over; zeros behind it; its length.
+pub fn put_around(
+    sheet: &mut [u8],
+    from: usize,
+    size: usize,
+    count: usize,
+    order: &[u8],
+    renewed: usize,
+    groups: usize,
+    rest: usize,
+    behind: &[u8],
+) -> usize
+    requires { ⌜ AroundPut (now sheet) from size count (now order) renewed groups rest (now behind) ⌝ }
+    ensures { λ r. ⌜ (r ≡ length (sheetOf (now (order .entry)) groups (take size (drop from (now (sheet .entry))) ++ now (behind .entry)))) × (now (sheet .exit) ≡ filled (pairSize limits) (now (sheet .entry)) (sheetOf (now (order .entry)) groups (take size (drop from (now (sheet .entry))) ++ now (behind .entry)))) ⌝ }
+{
+    make_room(sheet, from, size, count, renewed);
+    let middle = wire::put_bytes(sheet, 0, order);
+    wire::put_count(sheet, middle, groups);
+    let start = middle + COUNT_BYTES + size;
+    put_groups(sheet, start, rest, behind);
+    let end = start + behind.len();
+    wire::zero(sheet, end, PAIR_BYTES);
+    end
 }

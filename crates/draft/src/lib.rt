@@ -1,5 +1,4 @@
-// Section C under construction: groups worked out anew, one behind another in a local draft; and the pair sheet that is put
-// together from an order's bytes and a draft.
+// Section C under construction: groups worked out anew, one behind another in a local draft, and written to the sheet from there.
 pub mod kept;
 
 use groups::Worked;
@@ -8,7 +7,6 @@ use policy::COUNT_BYTES;
 use policy::GATE_MOST;
 use policy::RECORD_BYTES;
 use policy::TOTAL_MOST;
-use sheet::PAIR_BYTES;
 ghost use mathlib.Core.Path.{_≡_};
 ghost use mathlib.Core.List.{_++_};
 ghost use Prim.Native.Nat.{_+_, _*_, _≤_, _<_};
@@ -18,10 +16,9 @@ ghost use Rattle.policy.specs.Fields.{boxSize, countSize, recordSize, limits};
 ghost use Rattle.policy.specs.Rules.{isAllow};
 ghost use Rattle.wire.specs.Numbers.{numberBytes};
 ghost use Rattle.wire.specs.Records.{ruleIn};
-ghost use Rattle.wire.specs.Buffers.{filled};
-ghost use Rattle.sheet.specs.Pairs.{pairSize, groupSize};
+ghost use Rattle.sheet.specs.Pairs.{groupSize};
 ghost use Rattle.draft.specs.Drafts.{Appended, Ready, DraftedGroups};
-ghost use Rattle.draft.specs.Sheets.{Laid, sheetOf};
+ghost use Rattle.draft.specs.Sheets.{Laid};
 
 pub const DRAFT_BYTES: usize = COUNT_BYTES * GATE_MOST + BOX_BYTES * TOTAL_MOST;
 
@@ -41,13 +38,8 @@ pub struct Around {
     pub to: usize,
 }
 
-// How many boxes a draft has, and where it ends.
-pub struct Draft {
-    pub boxes: usize,
-    pub end: usize,
-}
-
-fn is_allow(rules: &[u8], i: usize) -> bool
+// Whether the rule at place i allows.
+pub fn is_allow(rules: &[u8], i: usize) -> bool
     requires { ⌜ recordSize * (i + 1) ≤ length (now rules) ⌝ }
     ensures { λ r. ⌜ r ≡ isAllow (ruleIn (drop (recordSize * i) (now (rules .entry)))) ⌝ }
 {
@@ -149,18 +141,4 @@ fn put_groups(sheet: &mut [u8], at: usize, groups: usize, draft: &[u8])
         from = end;
         left -= 1;
     }
-}
-
-// The pair sheet of an order's bytes and so many groups, and zeros behind it; its length.
-pub fn put_pair(sheet: &mut [u8], order: &[u8], groups: usize, draft: &[u8]) -> usize
-    requires { ⌜ (Laid groups (now draft)) × (groups < 65536) × (length (now order) + (countSize + length (now draft)) ≤ pairSize limits) × (pairSize limits ≤ length (now sheet)) ⌝ }
-    ensures { λ r. ⌜ (r ≡ length (sheetOf (now (order .entry)) groups (now (draft .entry)))) × (now (sheet .exit) ≡ filled (pairSize limits) (now (sheet .entry)) (sheetOf (now (order .entry)) groups (now (draft .entry)))) ⌝ }
-{
-    let middle = wire::put_bytes(sheet, 0, order);
-    wire::put_count(sheet, middle, groups);
-    let start = middle + COUNT_BYTES;
-    put_groups(sheet, start, groups, draft);
-    let end = start + draft.len();
-    wire::zero(sheet, end, PAIR_BYTES);
-    end
 }

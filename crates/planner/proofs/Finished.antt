@@ -1,25 +1,25 @@
 -- What each arm of the last step gives: 6, 7, or the pair sheet of the new lists and groups. Assumes nothing.
 use mathlib.Core.Path.{_≡_, refl, ap, sym, _∙_}
 use mathlib.Core.List.{List, [], _++_, map}
-use mathlib.Core.Bool.{false}
-use Prim.Native.Nat.{ℕ, _+_, _<_, _≤_}
+use mathlib.Core.Bool.{true, false}
+use Prim.Native.Nat.{ℕ, _+_, _*_, _-_, _<_, _≤_}
 use native.Mathlib.Omega.{arith}
-use lib.ListN.{length, take, drop, length-append, length-drop, length-map, take-append-drop}
-use lib.Seq.{drop-at}
+use lib.ListN.{length, take, drop, length-append, length-drop, length-map, take-append-drop, drop-of-length-le}
+use lib.Seq.{drop-at, take-add, take-take, length-take-le}
 use borrow.Author.Tests.{lt-ltb, le-ltb}
-use Rattle.lists.specs.Lists.{Each}
-use Rattle.lists.proofs.Lists.{each-append, each-drop, each-imp, map-append, every-each}
-use Rattle.policy.specs.Fields.{countSize, highest, limits}
-use Rattle.policy.specs.Ranges.{proper}
-use Rattle.policy.specs.Rules.{Rule, denies, allowsIn, Proper}
+use Rattle.lists.specs.Lists.{Each, every}
+use Rattle.lists.proofs.Lists.{each-append, each-drop, each-imp, map-append, append-none, every-each}
+use Rattle.policy.specs.Fields.{countSize, recordSize, highest, limits}
+use Rattle.policy.specs.Ranges.{Region, proper}
+use Rattle.policy.specs.Rules.{Rule, denies, allowsIn, sound, Proper}
 use Rattle.policy.specs.Refusals.{Outcome, refused, faults, numberOf}
-use Rattle.policy.specs.Move.{Slot, slots, boxesOf, together, anyOver, work, room, Order, Pair}
+use Rattle.policy.specs.Move.{Slot, kept, slots, boxesOf, together, anyOver, work, room, Order, Pair}
 use Rattle.policy.specs.declared.Answer.the-variants.{Length, Refused}
 use Rattle.policy.specs.declared.Refusal.{Refusal}
 use Rattle.policy.specs.declared.Refusal.the-variants.{TooManyBoxes}
 use Rattle.groups.specs.Worked.{workSize}
 use Rattle.policy.proofs.Numbers.{orElse-zero}
-use Rattle.policy.proofs.Edits.{slots-append, kept-boxes, faults-append, list-accepted}
+use Rattle.policy.proofs.Edits.{slots-append, kept-boxes, kept-over, over-append, together-append, faults-append, list-accepted}
 use Rattle.policy.proofs.Proper.{moved-proper}
 use Rattle.wire.specs.Numbers.{Byte}
 use Rattle.wire.specs.Records.{rulesIn}
@@ -32,16 +32,17 @@ use Rattle.sheet.specs.Readers.{rulesOf, listsOf, groupsFrom}
 use Rattle.sheet.proofs.Outcomes.{faultless}
 use Rattle.sheet.proofs.Pairs.{ProperGroup, PairGood, denies-most}
 use Rattle.sheet.proofs.Accepted.{OrderAccepted, order-accepted}
-use Rattle.draft.specs.Drafts.{alone, stretch, Drafting, draftSize}
-use Rattle.draft.specs.Sheets.{Laid, sheetOf}
+use Rattle.draft.specs.Drafts.{alone, stretch, slotGroups, draftSize, Ready, DraftedGroups}
+use Rattle.draft.specs.Sheets.{sheetOf, AroundPut}
+use Rattle.draft.specs.declared.Drafted.{Drafted}
 use Rattle.draft.specs.declared.Drafted.the-variants as D
-use Rattle.draft.proofs.Drawn.{drawn-over, drawn-light, drawn-boxes, drawn-end, drawn-content}
-use Rattle.draft.proofs.Drafts.{rules-front, rules-sound-front}
+use Rattle.draft.proofs.Drawn.{drawn-behind}
+use Rattle.draft.proofs.Drafts.{groupsBytes-append, rules-front, rules-sound-front}
 use Rattle.planner.proofs.Good.{pair-short}
-use Rattle.draft.specs.Arounds.{keptSlots, slotsAround, AroundReady, DraftedAround}
-use Rattle.planner.specs.Steps.{Writes, slotted, partOf, Finishing}
+use Rattle.draft.specs.Arounds.{boxesBefore, runSize, GroupsHeld, keptSlots, slotsBehind, slotsAround, Told, Behind}
+use Rattle.planner.specs.Steps.{Writes, slotted, partOf, Finishing, AllAnew}
 use Rattle.draft.specs.declared.Around.{Around}
-use Rattle.draft.proofs.Runs.{held-front}
+use Rattle.draft.proofs.Runs.{groups-count, held-front}
 use Rattle.draft.proofs.Laid.{groups-laid}
 use Rattle.wire.specs.Lists.{listSize}
 use Rattle.wire.proofs.Buffers.{refusal-leaves}
@@ -51,6 +52,13 @@ pub refuses : {A : Type 0} (bytes : A → List ℕ) (size : ℕ) (x : Outcome A)
     → x ≡ refused (numberOf f) → drop (workSize limits) w′ ≡ drop (workSize limits) w → Writes bytes size x out w (Refused f) out w′
 unfolding lengthOf
 refuses bytes size x out w w′ f e b = record { answer = rw e; result = refusal-leaves bytes size out e; beyond = b }
+
+-- the bytes from one place up to another, as those behind the first ones
+pub part-is : (from used : ℕ) (sheet : List ℕ) → from ≤ used → used ≤ length sheet → partOf from used sheet ≡ drop from (take used sheet)
+part-is from used sheet h k =
+    let e : used ≡ from + (used - from) = omega arith in
+    sym (ap (λ (n : ℕ). drop from (take n sheet)) e ∙ ap (drop from) (take-add from (used - from) sheet)
+    ∙ drop-at (take from sheet) (take (used - from) (drop from sheet)) from (length-take-le from sheet (omega arith)))
 
 -- groups worked out anew from rules without fault are proper
 stretch-proper : (i to : ℕ) (rules : List ℕ) → i ≤ to → faults (rulesIn to rules) ≡ 0 → Each ProperGroup (map boxesOf (stretch i to rules))
@@ -67,7 +75,7 @@ stretch-proper i to rules h f =
     ap (drop (length (map boxesOf before))) m ∙ drop-at (map boxesOf before) _ (length (map boxesOf before)) refl in
     rw (rules-front i to rules h) at (each-imp (Each Proper) ProperGroup _ (λ g q. every-each (proper highest) g q) (rw d at p))
 
-module _ {sheet order w : List ℕ} {used from gate own : ℕ} {v : Around} (ready : Finishing sheet used from order gate own v w) (bytes : Each Byte order) where
+module _ {sheet order w : List ℕ} {used from count gate own : ℕ} {v : Around} (ready : Finishing sheet used from count order gate own v w) (bytes : Each Byte order) where
   a : OrderAccepted order gate own (listSize gate)
   a = order-accepted (ready .reads) bytes gate own (listSize gate) refl
 
@@ -76,6 +84,12 @@ module _ {sheet order w : List ℕ} {used from gate own : ℕ} {v : Around} (rea
 
   abbrev groups : List ℕ
   groups = partOf from used sheet
+
+  abbrev anew : List Slot
+  anew = stretch (v .place) (v .to) (drop countSize order)
+
+  abbrev behind : List Slot
+  behind = slotsBehind v groups (drop countSize order)
 
   abbrev l : List Slot
   l = slotsAround v groups (drop countSize order)
@@ -89,65 +103,118 @@ module _ {sheet order w : List ℕ} {used from gate own : ℕ} {v : Around} (rea
   pub own-few : own ≤ limits .own
   own-few = a .place .ownLimit
 
-  pub finish-ready : (rules draft : List ℕ) → rules ≡ drop countSize order → draftSize limits ≤ length draft → AroundReady groups rules v draft w
-  finish-ready rules draft e roomy =
+  pub to-few : v .to ≤ limits .gate
+  to-few = omega (arith, ready .placed .inGate, a .place .gateLimit)
+
+  -- the groups before the place, which stay in the sheet
+  pub front-held : GroupsHeld groups (v .earlier)
+  front-held = held-front (v .earlier) (v .groups) groups (ready .placed .earlier) (ready .held)
+
+  groups-long : length groups ≡ used - from
+  groups-long = length-take-le (used - from) (drop from sheet) (rw length-drop (omega (arith, ready .start, ready .end)))
+
+  front-is : take (runSize (v .earlier) groups) (drop from sheet) ≡ groupsBytes (groupsFrom (v .earlier) groups)
+  front-is = sym (take-take (runSize (v .earlier) groups) (used - from) (drop from sheet) (omega (arith, front-held .there, groups-long))) ∙ sym (front-held .bytes)
+
+  -- rules up to one place are without fault
+  pub rules-good : (i : ℕ) → i ≤ gate → (recordSize * i ≤ length (drop countSize order)) × (every sound (rulesIn i (drop countSize order)) ≡ true)
+  rules-good i h =
       let f = faultless (limits .gate) (rulesOf gate order) (a .gateFaultless) in
+      (rw length-drop (omega (arith, order-long)), rules-sound-front i gate (drop countSize order) h (f .sounds))
+
+  anew-proper : Each ProperGroup (slotGroups anew)
+  anew-proper =
       let q = ready .placed in
-      let g = a .place .gateLimit in
-      let k = order-long in
+      let f = list-accepted (limits .gate) (rulesOf gate order) (a .gateFaultless) .0 in
+      let s : faults (rulesIn (v .to) (drop countSize order)) ≡ 0 =
+      rw (rules-front (v .to) gate (drop countSize order) (q .inGate)) at (orElse-zero (faults (take (v .to) (o .gate))) (faults (drop (v .to) (o .gate))) (sym (faults-append (take (v .to) (o .gate)) (drop (v .to) (o .gate))) ∙ rw (take-append-drop (v .to) (o .gate)) f) .0) in
+      stretch-proper (v .place) (v .to) (drop countSize order) (q .upTo) s
+
+  behind-groups : slotGroups behind ≡ slotGroups anew ++ drop (v .later) (groupsFrom (v .groups) groups)
+  behind-groups = map-append boxesOf anew _ ∙ ap (λ (x : List (List Region)). slotGroups anew ++ x) (kept-boxes (drop (v .later) (groupsFrom (v .groups) groups)))
+
+  behind-proper : Each ProperGroup (slotGroups behind)
+  behind-proper = rw behind-groups (each-append ProperGroup (slotGroups anew) _ anew-proper (each-drop ProperGroup (v .later) (groupsFrom (v .groups) groups) (ready .held .boxes)))
+
+  all-groups : p .groups ≡ groupsFrom (v .earlier) groups ++ slotGroups behind
+  all-groups = map-append boxesOf (keptSlots 0 (v .earlier) groups) behind ∙ ap (λ (x : List (List Region)). x ++ slotGroups behind) (kept-boxes (groupsFrom (v .earlier) groups))
+
+  proper-all : Each ProperGroup (p .groups)
+  proper-all = rw all-groups (each-append ProperGroup (groupsFrom (v .earlier) groups) _ (front-held .boxes) behind-proper)
+
+  all-length : length l ≡ v .earlier + length behind
+  all-length =
+      length-append (keptSlots 0 (v .earlier) groups) behind
+      ∙ ap (λ (n : ℕ). n + length behind) (length-map (groupsFrom (v .earlier) groups) kept ∙ groups-count (v .earlier) groups)
+
+  short : length l ≤ limits .gate
+  short = omega (arith, ready .counted, denies-most (o .gate), rulesIn-length gate (drop countSize order), a .place .gateLimit)
+
+  -- drafting the groups from the place on, where none is kept behind it
+  pub finish-ready : (rules draft : List ℕ) (front : ℕ) → rules ≡ drop countSize order → front ≡ boxesBefore (v .earlier) groups → draftSize limits ≤ length draft → Ready rules (v .place) (v .to) draft 0 front w
+  finish-ready rules draft front e f roomy =
+      let q = ready .placed in
+      let g = rules-good (v .to) (q .inGate) in
       record {
-        held = ready .held;
-        placed = record { earlier = q .earlier; before = q .before; upTo = q .upTo; inGate = omega (arith, q .inGate); later = q .later; fits = q .fits };
-        records = rw (e, length-drop) (omega (arith, q .inGate));
-        rulesSound = rw e (rules-sound-front (v .to) gate (drop countSize order) (q .inGate) (f .sounds));
+        records = rw e (g .0);
+        rulesSound = rw e (g .1);
+        upTo = q .upTo;
+        gate = to-few;
         room = roomy;
+        start = record { place = omega arith; few = omega (arith, front-held .few) };
         workRoom = ready .workRoom;
       }
 
-  module _ (rules : List ℕ) (is : rules ≡ drop countSize order) {draft draft′ w′ : List ℕ} where
-    pub finish-six : (f : Refusal) → numberOf f ≡ 6 → DraftedAround groups rules v draft w D.TooManyPieces draft′ w′
+  pub finish-drafted : (q r : Drafted) (rules draft draft′ w′ : List ℕ) (front : ℕ) → q ≡ r → rules ≡ drop countSize order → AllAnew v → draftSize limits ≤ length draft → length draft′ ≡ length draft
+      → DraftedGroups rules (v .place) (v .to) draft 0 front w q draft′ w′ → Behind behind front r draft′
+  finish-drafted q r rules draft draft′ w′ front i e k roomy j x =
+      let m = groups-count (v .groups) groups in
+      let n : length (groupsFrom (v .groups) groups) ≤ v .later = omega arith in
+      let b : behind ≡ anew = rw (drop-of-length-le (groupsFrom (v .groups) groups) n) (append-none anew) in
+      let s = short in
+      rw b (drawn-behind r (rw (i, e) at (x .drafting)) j anew-proper (omega (arith, all-length, ap length b)) roomy)
+
+  module _ {front : ℕ} (counted : front ≡ boxesBefore (v .earlier) groups) {s : List ℕ} where
+    pub finish-six : {w′ : List ℕ} (f : Refusal) → numberOf f ≡ 6 → Behind behind front D.TooManyPieces s → drop (workSize limits) w′ ≡ drop (workSize limits) w
         → Writes pairBytes (pairSize limits) (slotted o l) sheet w (Refused f) sheet w′
-    unfolding slotted room work
-    finish-six f e x = refuses pairBytes (pairSize limits) _ sheet w w′ f (rw (drawn-over (rw is at (x .drafting)), e)) (x .beyond)
+    unfolding slotted room work Told
+    finish-six {w′} f e x beyond =
+        let over : anyOver (limits .pieces) l ≡ true = over-append (limits .pieces) (keptSlots 0 (v .earlier) groups) behind ∙ rw (kept-over (limits .pieces) (groupsFrom (v .earlier) groups)) (x .told) in
+        refuses pairBytes (pairSize limits) _ sheet w w′ f (rw (over, e)) beyond
 
-    module _ {b end : ℕ} (x : DraftedAround groups rules v draft w (D.Groups b end) draft′ w′) where
-      drafting : Drafting limits l draft 0 0 (D.Groups b end) draft′
-      drafting = rw is at (x .drafting)
-
+    module _ {b end : ℕ} (x : Behind behind front (D.Groups b end) s) where
       light : anyOver (limits .pieces) l ≡ false
-      light = drawn-light drafting
+      unfolding Told
+      light = over-append (limits .pieces) (keptSlots 0 (v .earlier) groups) behind ∙ rw (kept-over (limits .pieces) (groupsFrom (v .earlier) groups)) (x .told .0)
 
       boxes-are : b ≡ length (together (p .groups))
-      boxes-are = drawn-boxes drafting
+      unfolding Told
+      boxes-are =
+          let e : length (together (p .groups)) ≡ boxesBefore (v .earlier) groups + length (together (slotGroups behind)) =
+          ap (λ (g : List (List Region)). length (together g)) all-groups ∙ rw (together-append (groupsFrom (v .earlier) groups) (slotGroups behind)) (length-append (together (groupsFrom (v .earlier) groups)) (together (slotGroups behind))) in
+          let d = x .told .1 in
+          omega arith
+
+      behind-few : length (together (slotGroups behind)) ≤ b
+      unfolding Told
+      behind-few = let d = x .told .1 in omega arith
 
       own-are : length (o .own) ≡ own
       own-are = rulesIn-length own (drop countSize (drop (listSize gate) order))
 
-      pub finish-seven : limits .total < b + own → Writes pairBytes (pairSize limits) (slotted o l) sheet w (Refused TooManyBoxes) sheet w′
+      pub finish-seven : {w′ : List ℕ} → limits .total < b + own → drop (workSize limits) w′ ≡ drop (workSize limits) w → Writes pairBytes (pairSize limits) (slotted o l) sheet w (Refused TooManyBoxes) sheet w′
       unfolding slotted room work
-      finish-seven h =
+      finish-seven {w′} h beyond =
           let t : limits .total < length (together (p .groups)) + length (o .own) = omega (arith, boxes-are, own-are) in
-          refuses pairBytes (pairSize limits) _ sheet w w′ TooManyBoxes (rw (light, lt-ltb _ _ t)) (x .beyond)
+          refuses pairBytes (pairSize limits) _ sheet w w′ TooManyBoxes (rw (light, lt-ltb _ _ t)) beyond
 
-      -- within the total, the draft is section C of the new pair
-      module _ (h : b + own ≤ limits .total) (roomy : draftSize limits ≤ length draft) where
+      -- within the total, the groups before the place and those drafted are section C of the new pair
+      module _ (h : b + own ≤ limits .total) where
         none : room limits o l ≡ 0
         unfolding room work
         none =
             let t : length (together (p .groups)) + length (o .own) ≤ limits .total = omega (arith, boxes-are, own-are) in
             rw (light, le-ltb _ _ t)
-
-        proper-all : Each ProperGroup (p .groups)
-        proper-all =
-            let q = ready .placed in
-            let f = list-accepted (limits .gate) (rulesOf gate order) (a .gateFaultless) .0 in
-            let s : faults (rulesIn (v .to) (drop countSize order)) ≡ 0 =
-            rw (rules-front (v .to) gate (drop countSize order) (q .inGate)) at (orElse-zero (faults (take (v .to) (o .gate))) (faults (drop (v .to) (o .gate))) (sym (faults-append (take (v .to) (o .gate)) (drop (v .to) (o .gate))) ∙ rw (take-append-drop (v .to) (o .gate)) f) .0) in
-            let e = held-front (v .earlier) (v .groups) groups (q .earlier) (ready .held) in
-            rw (map-append boxesOf (keptSlots 0 (v .earlier) groups) _, map-append boxesOf (stretch (v .place) (v .to) (drop countSize order)) _, kept-boxes (groupsFrom (v .earlier) groups), kept-boxes (drop (v .later) (groupsFrom (v .groups) groups)))
-            (each-append ProperGroup (groupsFrom (v .earlier) groups) _ (e .boxes)
-            (each-append ProperGroup (map boxesOf (stretch (v .place) (v .to) (drop countSize order))) _ (stretch-proper (v .place) (v .to) (drop countSize order) (q .upTo) s)
-            (each-drop ProperGroup (v .later) (groupsFrom (v .groups) groups) (ready .held .boxes))))
 
         good : PairGood limits p
         good = record {
@@ -157,44 +224,54 @@ module _ {sheet order w : List ℕ} {used from gate own : ℕ} {v : Around} (rea
           groups = record { boxes = proper-all; within = omega (arith, boxes-are, own-are) };
         }
 
-        short : length l ≤ limits .gate
-        short = omega (arith, ready .counted, denies-most (o .gate), rulesIn-length gate (drop countSize order), a .place .gateLimit)
+        drafted : (end ≤ length s) × (take end s ≡ groupsBytes (slotGroups behind))
+        unfolding Told
+        drafted = x .told .2 (omega arith)
 
-        within : b ≤ limits .total
-        within = omega arith
+        pub finish-end : end ≤ length s
+        finish-end = drafted .0
 
-        pub finish-end : end ≤ length draft
-        finish-end = drawn-end drafting within proper-all short (roomy)
+        module _ (size n : ℕ) (sized : size ≡ runSize (v .earlier) groups) (count-is : n ≡ denies (rulesOf gate order)) where
+          abbrev section : List ℕ
+          section = take size (drop from sheet) ++ take end s
 
-        content : take end draft′ ≡ groupsBytes (p .groups)
-        content = drawn-content drafting within proper-all short (roomy)
+          content : section ≡ groupsBytes (p .groups)
+          content = rw (sized, front-is, drafted .1) (sym (ap groupsBytes all-groups ∙ groupsBytes-append (groupsFrom (v .earlier) groups) (slotGroups behind)))
 
-        module _ (n : ℕ) (count : n ≡ denies (rulesOf gate order)) where
-          counted : n ≡ length (p .groups)
-          counted = count ∙ sym (good .counted)
+          number : n ≡ length (p .groups)
+          number = count-is ∙ sym (good .counted)
 
-          pub finish-laid : Laid n (take end draft′)
-          finish-laid = rw (counted, content) (groups-laid (p .groups) proper-all (omega (arith, good .groups .within)))
-
-          sheet-is : sheetOf order n (take end draft′) ≡ pairBytes p
+          sheet-is : sheetOf order n section ≡ pairBytes p
           unfolding pairBytes orderBytes
-          sheet-is = rw (counted, content, a .gateBytes, a .ownBytes, take-append-drop (listSize gate) order)
+          sheet-is = rw (content, number, a .gateBytes, a .ownBytes, take-append-drop (listSize gate) order)
 
-          pub finish-few : n < 65536
-          finish-few = omega (arith, denies-most (rulesOf gate order), rulesIn-length gate (drop countSize order), a .place .gateLimit)
+          pub finish-rest : v .earlier ≤ n
+          finish-rest = omega (arith, count-is, ready .counted, all-length)
 
-          pub finish-fits : length order + (countSize + length (take end draft′)) ≤ pairSize limits
-          finish-fits =
-              let s = pair-short limits p (omega arith) (omega arith) good (omega arith) in
-              let k : length (sheetOf order n (take end draft′)) ≡ length order + (countSize + length (take end draft′)) = rw (length-append, length-append, numberBytes-length) refl in
-              omega (arith, ap length sheet-is)
+          pub finish-put : (rest : ℕ) → rest ≡ n - v .earlier → AroundPut sheet from size count order gate n rest (take end s)
+          finish-put rest e =
+              let k : rest ≡ length (slotGroups behind) = omega (arith, count-is, ready .counted, all-length, length-map behind boxesOf) in
+              let t = pair-short limits p (omega arith) (omega arith) good (omega arith) in
+              let fl : length (take size (drop from sheet)) ≡ size = length-take-le size (drop from sheet) (rw length-drop (omega (arith, sized, front-held .there, groups-long, ready .end, ready .start))) in
+              let j : length (sheetOf order n section) ≡ length order + (countSize + (size + length (take end s))) = rw (length-append, length-append, numberBytes-length, length-append, fl) refl in
+              record {
+                more = ready .more;
+                less = ready .less;
+                front = ready .old;
+                old = omega (arith, sized, front-held .there, groups-long, ready .end, ready .start);
+                moved = ready .moved;
+                laid = rw (k, drafted .1) (groups-laid (slotGroups behind) behind-proper (omega (arith, behind-few)));
+                few = omega (arith, count-is, denies-most (rulesOf gate order), rulesIn-length gate (drop countSize order), a .place .gateLimit);
+                fits = omega (arith, ap length sheet-is);
+                room = ready .sheetRoom;
+              }
 
-          pub finish-accepted : (r : ℕ) (sheet′ : List ℕ)
-              → (r ≡ length (sheetOf order n (take end draft′))) × (sheet′ ≡ filled (pairSize limits) sheet (sheetOf order n (take end draft′)))
+          pub finish-accepted : {w′ : List ℕ} (r : ℕ) (sheet′ : List ℕ) → drop (workSize limits) w′ ≡ drop (workSize limits) w
+              → (r ≡ length (sheetOf order n section)) × (sheet′ ≡ filled (pairSize limits) sheet (sheetOf order n section))
               → Writes pairBytes (pairSize limits) (slotted o l) sheet w (Length r) sheet′ w′
           unfolding slotted lengthOf written
-          finish-accepted r sheet′ e = record {
+          finish-accepted r sheet′ beyond e = record {
             answer = rw (none, e .0, sheet-is);
             result = rw (none, e .1, sheet-is);
-            beyond = x .beyond;
+            beyond = beyond;
           }

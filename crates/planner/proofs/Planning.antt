@@ -1,7 +1,7 @@
 -- A move is the last step with nothing kept. Assumes nothing.
 use mathlib.Core.Path.{_≡_, refl, ap, _∙_}
 use mathlib.Core.List.{List}
-use Prim.Native.Nat.{ℕ, _≤_}
+use Prim.Native.Nat.{ℕ, _+_, _≤_}
 use native.Mathlib.Omega.{arith}
 use lib.ListN.{length, drop}
 use Rattle.lists.specs.Lists.{Each}
@@ -44,29 +44,38 @@ module _ {s : List ℕ} {n m middle : ℕ} (a : OrderAccepted s n m middle) wher
   unfolding groupsFrom rulesIn allowsIn
   all-anew groups = append-none (slotsOf o)
 
-  pub plan-ready : {sheet w : List ℕ} (to : ℕ) → to ≡ n → OrderRead s (Parts n m middle) → pairSize limits ≤ length sheet → workSize limits ≤ length w
-      → Finishing sheet 0 0 s n m (fresh to) w
+  -- nothing stands in the sheet, wherever the groups are to begin
+  pub plan-ready : {sheet w : List ℕ} (to from : ℕ) → to ≡ n → from ≡ length s + countSize → OrderRead s (Parts n m middle) → pairSize limits ≤ length sheet → workSize limits ≤ length w
+      → Finishing sheet from from n s n m (fresh to) w
   unfolding groupsFrom groupsBytes together Each
-  plan-ready {sheet} to e reads h j = rw e (record {
-    reads = rw (a .place .gateEnd) at reads;
-    held = record { boxes = tt; bytes = refl; there = omega arith; few = omega arith };
-    placed = record {
-      earlier = omega arith;
-      before = omega arith;
-      upTo = omega arith;
-      inGate = omega arith;
-      later = omega arith;
-      fits = omega (arith, a .place .gateLimit);
-    };
-    counted = ap length (all-anew (partOf 0 0 sheet)) ∙ slots-length (startOf o) _ (o .gate);
-    start = omega arith;
-    end = omega arith;
-    sheetRoom = h;
-    workRoom = j;
-  })
+  plan-ready {sheet} to from e f reads h j =
+      let l = a .place .ownEnd in
+      let k = a .place .gateEnd in
+      rw e (record {
+        reads = rw (a .place .gateEnd) at reads;
+        held = record { boxes = tt; bytes = refl; there = omega arith; few = omega arith };
+        placed = record {
+          earlier = omega arith;
+          between = omega arith;
+          before = omega arith;
+          upTo = omega arith;
+          inGate = omega arith;
+          later = omega arith;
+          fits = omega (arith, a .place .gateLimit);
+        };
+        counted = ap length (all-anew (partOf from from sheet)) ∙ slots-length (startOf o) _ (o .gate);
+        start = omega arith;
+        end = omega (arith, a .place .gateLimit, a .place .ownLimit);
+        more = omega arith;
+        less = omega arith;
+        old = omega arith;
+        moved = omega arith;
+        sheetRoom = h;
+        workRoom = j;
+      })
 
-  pub plan-done : {sheet w sheet′ w′ : List ℕ} {r : Answer} (to : ℕ) → to ≡ n
-      → Writes pairBytes (pairSize limits) (slotted (listsOf n m (listSize n) s) (slotsAround (fresh to) (partOf 0 0 sheet) (drop countSize s))) sheet w r sheet′ w′
+  pub plan-done : {sheet w sheet′ w′ : List ℕ} {r : Answer} (to from : ℕ) → to ≡ n
+      → Writes pairBytes (pairSize limits) (slotted (listsOf n m (listSize n) s) (slotsAround (fresh to) (partOf from from sheet) (drop countSize s))) sheet w r sheet′ w′
       → Planned s sheet w r sheet′ w′
   unfolding moveOf planOf slotted
-  plan-done {sheet} to e x = rw (a .reads) (rw (e, all-anew (partOf 0 0 sheet), ← a .place .gateEnd) at x)
+  plan-done {sheet} to from e x = rw (a .reads) (rw (e, all-anew (partOf from from sheet), ← a .place .gateEnd) at x)

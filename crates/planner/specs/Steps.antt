@@ -1,9 +1,9 @@
 -- What a call's inner part answers and leaves, once everything lent is long enough. Assumes nothing.
 use mathlib.Core.Path.{_≡_}
 use mathlib.Core.List.{List, map}
-use Prim.Native.Nat.{ℕ, _-_, _≤_}
+use Prim.Native.Nat.{ℕ, _+_, _*_, _-_, _≤_}
 use lib.ListN.{length, take, drop}
-use Rattle.policy.specs.Fields.{countSize, limits}
+use Rattle.policy.specs.Fields.{countSize, recordSize, limits}
 use Rattle.policy.specs.Rules.{denies}
 use Rattle.policy.specs.Refusals.{Outcome, unless, said}
 use Rattle.policy.specs.Move.{Slot, boxesOf, room, Order, Pair}
@@ -13,6 +13,7 @@ use Rattle.sheet.specs.Pairs.{pairBytes, pairSize}
 use Rattle.sheet.specs.Readers.{rulesOf, OrderRead}
 use Rattle.sheet.specs.declared.OrderParts.the-variants.{Parts}
 use Rattle.draft.specs.Arounds.{GroupsHeld, slotsAround, Placed}
+use Rattle.draft.specs.Sheets.{movedTo}
 use Rattle.draft.specs.declared.Around.{Around}
 use Rattle.planner.specs.Calls.{moveOf}
 use Rattle.wire.specs.Lists.{listSize}
@@ -36,13 +37,22 @@ slotted o l = unless (room limits o l) (record { order = o; groups = map boxesOf
 abbrev pub partOf : ℕ → ℕ → List ℕ → List ℕ
 partOf from to s = take (to - from) (drop from s)
 
--- What the last step asks for: the new order sheet reads well, and the old groups stand in the sheet from `from` up to `used`.
-pub record Finishing (sheet : List ℕ) (used from : ℕ) (order : List ℕ) (gate own : ℕ) (v : Around) (work : List ℕ) : Type 0 where
+-- What the last step asks for: the new order sheet reads well, the old groups stand in the sheet from `from` up to `used`, and
+-- that is one record at most from where they go, since the A before them had `count` rules.
+pub record Finishing (sheet : List ℕ) (used from count : ℕ) (order : List ℕ) (gate own : ℕ) (v : Around) (work : List ℕ) : Type 0 where
   pub reads : OrderRead order (Parts gate own (listSize gate))
   pub held : GroupsHeld (partOf from used sheet) (v .groups)
   pub placed : Placed v gate
   pub counted : length (slotsAround v (partOf from used sheet) (drop countSize order)) ≡ denies (rulesOf gate order)
   pub start : from ≤ used
   pub end : used ≤ length sheet
+  pub more : gate ≤ count + 1
+  pub less : count ≤ gate + 1
+  pub old : recordSize * count ≤ from
+  pub moved : length order + countSize ≡ movedTo from count gate
   pub sheetRoom : pairSize limits ≤ length sheet
   pub workRoom : workSize limits ≤ length work
+
+-- Where all groups from the place on are worked out anew.
+abbrev pub AllAnew : Around → Type 0
+AllAnew v = v .later ≡ v .groups

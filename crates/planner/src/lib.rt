@@ -1,10 +1,13 @@
-// Move, and the last step, which an edit shares with it: groups drafted, and the pair sheet written if there is room for them.
+// Move, and the last step, which some edits share with it: groups drafted, and the pair sheet written if there is room for them.
 // Nothing that is lent is touched before the call is known to be accepted, but the work buffer.
 use draft::Around;
 use draft::DRAFT_BYTES;
 use draft::Drafted;
+use draft::draft_groups;
+use draft::kept;
 use groups::WORK_BYTES;
 use policy::Answer;
+use policy::BOX_BYTES;
 use policy::COUNT_BYTES;
 use policy::Refusal;
 use policy::TOTAL_MOST;
@@ -20,7 +23,7 @@ ghost use Rattle.sheet.specs.Readers.{listsOf};
 ghost use Rattle.draft.specs.Drafts.{draftSize};
 ghost use Rattle.draft.specs.Arounds.{slotsAround};
 ghost use Rattle.planner.specs.Calls.{Moves};
-ghost use Rattle.planner.specs.Steps.{Writes, Planned, slotted, partOf, Finishing};
+ghost use Rattle.planner.specs.Steps.{Writes, Planned, slotted, partOf, Finishing, AllAnew};
 
 // What an edit does at its place.
 pub enum Change {
@@ -29,12 +32,13 @@ pub enum Change {
     Replace,
 }
 
-// The groups of the new lists drafted, those that are kept from the sheet's bytes from `from` up to `used`, and the pair sheet
-// written if there is room for them.
+// The groups of the new lists from their place on drafted, and the pair sheet written around those before it, which stand in the
+// sheet from `from` on, if there is room for all of them.
 fn finish_with(
     sheet: &mut [u8],
     used: usize,
     from: usize,
+    count: usize,
     order: &[u8],
     gate: usize,
     own: usize,
@@ -42,14 +46,17 @@ fn finish_with(
     draft: &mut [u8],
     work: &mut [u8],
 ) -> Answer
-    requires { ⌜ Finishing (now sheet) used from (now order) gate own around (now work) × (draftSize limits ≤ length (now draft)) ⌝ }
+    requires { ⌜ Finishing (now sheet) used from count (now order) gate own around (now work) × AllAnew around × (draftSize limits ≤ length (now draft)) ⌝ }
     ensures { λ r. ⌜ Writes pairBytes (pairSize limits) (slotted (listsOf gate own (listSize gate) (now (order .entry))) (slotsAround around (partOf from used (now (sheet .entry))) (drop countSize (now (order .entry))))) (now (sheet .entry)) (now (work .entry)) r (now (sheet .exit)) (now (work .exit)) ⌝ }
 {
-    match draft::kept::draft_around(
-        &sheet[from..used],
+    let front = kept::count_boxes(&sheet[from..used], around.earlier);
+    match draft_groups(
         &order[COUNT_BYTES..],
-        around,
+        around.place,
+        around.to,
         draft,
+        0,
+        front,
         work,
     ) {
         Drafted::TooManyPieces => Answer::Refused(Refusal::TooManyPieces),
@@ -57,24 +64,38 @@ fn finish_with(
             if TOTAL_MOST < boxes + own {
                 return Answer::Refused(Refusal::TooManyBoxes);
             }
+            let size = COUNT_BYTES * around.earlier + BOX_BYTES * front;
             let groups = sheet::count_denies(order, gate);
-            Answer::Length(draft::put_pair(sheet, order, groups, &draft[..end]))
+            let rest = groups - around.earlier;
+            Answer::Length(kept::put_around(
+                sheet,
+                from,
+                size,
+                count,
+                order,
+                gate,
+                groups,
+                rest,
+                &draft[..end],
+            ))
         }
     }
 }
 
-// The last step of a move and of an edit. The draft is its own, so that a copy from it and to it cannot meet anything lent.
+// The last step of a move, and of an edit of A that takes out an allow or puts one in. The draft is its own, so that a copy from it
+// and to it cannot meet anything lent.
 pub fn finish(
     sheet: &mut [u8],
     used: usize,
     from: usize,
+    count: usize,
     order: &[u8],
     gate: usize,
     own: usize,
     around: Around,
     work: &mut [u8],
 ) -> Answer
-    requires { ⌜ Finishing (now sheet) used from (now order) gate own around (now work) ⌝ }
+    requires { ⌜ Finishing (now sheet) used from count (now order) gate own around (now work) × AllAnew around ⌝ }
     ensures { λ r. ⌜ Writes pairBytes (pairSize limits) (slotted (listsOf gate own (listSize gate) (now (order .entry))) (slotsAround around (partOf from used (now (sheet .entry))) (drop countSize (now (order .entry))))) (now (sheet .entry)) (now (work .entry)) r (now (sheet .exit)) (now (work .exit)) ⌝ }
 {
     let mut draft = [0u8; DRAFT_BYTES];
@@ -82,6 +103,7 @@ pub fn finish(
         sheet,
         used,
         from,
+        count,
         order,
         gate,
         own,
@@ -110,7 +132,8 @@ fn plan(order: &[u8], sheet: &mut [u8], work: &mut [u8]) -> Answer
                 place: 0,
                 to: gate,
             };
-            finish(sheet, 0, 0, order, gate, own, around, work)
+            let from = order.len() + COUNT_BYTES;
+            finish(sheet, from, from, gate, order, gate, own, around, work)
         }
     }
 }

@@ -1,7 +1,7 @@
 -- An edit of A, once the pair sheet is read and the new order sheet made. Assumes nothing.
 use mathlib.Core.Path.{_≡_, refl, ap, sym, subst, _∙_}
 use mathlib.Core.List.{List, [], _∷_, _++_}
-use Prim.Native.Nat.{ℕ, _+_, _≤_}
+use Prim.Native.Nat.{ℕ, _+_, _≤_, _<_}
 use native.Mathlib.Omega.{arith}
 use lib.ListN.{length, take, drop, length-append}
 use lib.Seq.{take-all, length-take-le}
@@ -35,15 +35,17 @@ use Rattle.sheet.proofs.Accepted.{PairAccepted}
 use Rattle.draft.specs.Arounds.{runSize, GroupsHeld, slotsAround, Placed}
 use Rattle.draft.specs.declared.Around.{Around}
 use Rattle.draft.proofs.Runs.{run-length}
-use Rattle.planner.specs.Steps.{Writes, slotted, partOf, Finishing}
+use Rattle.planner.specs.Steps.{Writes, slotted, partOf, AllAnew}
 use Rattle.planner.specs.Edits.{Asked, asked, kindOf, editOf, editedOf}
 use Rattle.planner.specs.declared.Change.{Change}
 use Rattle.planner.proofs.Demands.{changed-fits}
+use Rattle.planner.proofs.Finished.{part-is}
+use Rattle.regrouping.specs.Regroups.{Settling}
 use Rattle.changes.specs.Changes.{takenBy, putBy, changedBytes, ListChanged}
 use Rattle.changes.specs.Drafts.{aroundOf}
-use Rattle.changes.proofs.Changes.{ChangeDone, change-done, list-spliced, taken-is, put-is, changed-length}
+use Rattle.changes.proofs.Changes.{ChangeDone, change-done, list-spliced, taken-is, put-is, few, changed-length}
 use Rattle.revising.specs.Edits.{Revised}
-use Rattle.revising.proofs.Slots.{around-length, gate-slots, gate-placed}
+use Rattle.revising.proofs.Slots.{around-length, gate-slots, gate-placed, gate-wide}
 use Rattle.revising.proofs.Revised as revised
 
 module _ {s : List ℕ} {n m middle third boxes : ℕ} (a : PairAccepted s n m middle third boxes) where
@@ -70,10 +72,12 @@ module _ {s : List ℕ} {n m middle third boxes : ℕ} (a : PairAccepted s n m m
   pub gate-some : (1 ≤ n) × (n ≤ limits .own)
   gate-some = (known .gateSome, omega (arith, a .place .lists .gateLimit))
 
+  groups-long : length (drop (third + countSize) s) ≡ runSize (denies (rulesOf n s)) (drop (third + countSize) s)
+  groups-long = ap length (sym (a .groupBytes)) ∙ run-length (denies (rulesOf n s)) (drop (third + countSize) s) (a .good .groups .boxes)
+
   groups-held : GroupsHeld (drop (third + countSize) s) (denies (rulesOf n s))
   groups-held =
-      let l = run-length (denies (rulesOf n s)) (drop (third + countSize) s) (a .good .groups .boxes) in
-      let e : length (drop (third + countSize) s) ≡ runSize (denies (rulesOf n s)) (drop (third + countSize) s) = ap length (sym (a .groupBytes)) ∙ l in
+      let e = groups-long in
       record {
         boxes = a .good .groups .boxes;
         bytes = a .groupBytes ∙ sym (take-all (runSize (denies (rulesOf n s)) (drop (third + countSize) s)) (drop (third + countSize) s) (omega arith));
@@ -178,6 +182,17 @@ module _ {s : List ℕ} {n m middle third boxes : ℕ} (a : PairAccepted s n m m
             let c : length (p .groups) ≡ denies (front place g ++ (gone place k g ++ back place k g)) = rw (three-parts place (out k) g) (a .good .counted) in
             rw rules-new (around-length (λ (x : Region). x ∷ []) (front place g) (gone place k g) (put k) (back place k g) (p .groups) c)
 
+        -- with more than one rule to work out, none is kept behind the place
+        slots-wide : v .place + 1 < v .to → AllAnew v
+        slots-wide = rw rules-new (gate-wide place change new (o .gate) there (drop (third + countSize) s) (drop countSize t) n′ rules-new)
+
+        -- A has one rule more, as many or one less
+        near : (n′ ≤ n + 1) × (n ≤ n′ + 1)
+        near =
+            let c = changed-length place k (o .gate) there in
+            let i = few change in
+            (omega (arith, count-is, known .gateCount, put-is change new), omega (arith, count-is, known .gateCount, taken-is change new))
+
         edited-is : editedOf limits s q ≡ slotted (listsOf n′ m (listSize n′) t) (slotsAround v (drop (third + countSize) s) (drop countSize t))
         edited-is =
             revised.revised-slotted a 0 place change new refl n (known .gateCount) (d .found) (d .whole) (a .good .gate) (clean .0)
@@ -188,21 +203,32 @@ module _ {s : List ℕ} {n m middle third boxes : ℕ} (a : PairAccepted s n m m
           start-inside = omega (arith, ap length is, length-take-le used sheet inside, lists-long .3)
 
           groups-are : partOf (third + countSize) used sheet ≡ drop (third + countSize) s
-          groups-are = revised.part-is (third + countSize) used sheet start-inside inside ∙ ap (drop (third + countSize)) (sym is)
+          groups-are = part-is (third + countSize) used sheet start-inside inside ∙ ap (drop (third + countSize)) (sym is)
 
-          pub gate-finishing : {w : List ℕ} → pairSize limits ≤ length sheet → workSize limits ≤ length w → Finishing sheet used (third + countSize) t n′ m v′ w
+          pub gate-settling : {w : List ℕ} → pairSize limits ≤ length sheet → workSize limits ≤ length w → Settling sheet used (third + countSize) n t n′ m v′ boxes w
           unfolding aroundOf
-          gate-finishing {w} h j =
-              subst (λ (x : Around). Finishing sheet used (third + countSize) t n′ m x w) (sym same)
+          gate-settling {w} h j =
+              let g = a .place .lists .gateEnd in
+              let e = a .place .lists .ownEnd in
+              subst (λ (x : Around). Settling sheet used (third + countSize) n t n′ m x boxes w) (sym same)
               (record {
-                reads = order-read;
-                held = rw groups-are groups-held;
-                placed = slots-placed;
-                counted = rw groups-are (ap length slots-are ∙ slots-counted);
-                start = start-inside;
-                end = inside;
-                sheetRoom = h;
-                workRoom = j;
+                finishing = record {
+                  reads = order-read;
+                  held = rw groups-are groups-held;
+                  placed = slots-placed;
+                  counted = rw groups-are (ap length slots-are ∙ slots-counted);
+                  start = start-inside;
+                  end = inside;
+                  more = near .0;
+                  less = near .1;
+                  old = omega arith;
+                  moved = omega (arith, long-is);
+                  sheetRoom = h;
+                  workRoom = j;
+                };
+                wide = slots-wide;
+                all = rw groups-are (a .place .boxesAre);
+                exact = rw groups-are groups-long;
               })
 
           pub gate-done : {w w′ sheet′ : List ℕ} {r : Answer}

@@ -34,6 +34,7 @@ use Rattle.planner.specs.Steps.{Writes, slotted}
 use Rattle.planner.specs.Edits.{Asked, asked, kindOf, editOf, editedOf}
 use Rattle.planner.specs.declared.Change.{Change}
 use Rattle.planner.proofs.Demands.{changed-fits}
+use Rattle.planner.proofs.Finished.{part-is}
 use Rattle.changes.specs.Changes.{takenBy, putBy, changedBytes, newBytes, ListChanged}
 use Rattle.changes.specs.Puts.{withList, PutReady}
 use Rattle.changes.proofs.Changes.{ChangeDone, change-refused, change-done, list-spliced, taken-is, put-is, few, changed-length}
@@ -182,7 +183,7 @@ module _ {s : List ℕ} {n m middle third boxes : ℕ} (a : PairAccepted s n m m
           unfolding pairBytes orderBytes
           pair-is =
               let l = sheet-long in
-              let e : take (used - third) (drop third sheet) ≡ drop third s = revised.part-is third used sheet (l .1) inside ∙ ap (drop third) (sym is) in
+              let e : take (used - third) (drop third sheet) ≡ drop third s = part-is third used sheet (l .1) inside ∙ ap (drop third) (sym is) in
               rw (l .0, front-is, bytes-are, e, ← (a .sectionBytes)) (sym (append-assoc (listBytes (o .gate)) (listBytes l′) _))
 
           pub own-done : {sheet′ : List ℕ} {r : ℕ} → (r ≡ length (withList sheet middle m used (take end w′))) × (sheet′ ≡ filled (pairSize limits) sheet (withList sheet middle m used (take end w′)))

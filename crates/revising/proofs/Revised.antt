@@ -31,13 +31,6 @@ use Rattle.planner.specs.declared.Change.{Change}
 use Rattle.changes.specs.Changes.{takenBy, changedBytes, ListChanged}
 use Rattle.changes.proofs.Changes.{taken-is, change-refused}
 
--- a part of the sheet is the end of what is used of it
-pub part-is : (from used : ℕ) (sheet : List ℕ) → from ≤ used → used ≤ length sheet → partOf from used sheet ≡ drop from (take used sheet)
-part-is from used sheet h k =
-    let e : used ≡ from + (used - from) = omega arith in
-    sym (ap (λ (n : ℕ). drop from (take n sheet)) e ∙ ap (drop from) (take-add from (used - from) sheet)
-    ∙ drop-at (take from sheet) (take (used - from) (drop from sheet)) from (length-take-le from sheet (omega arith)))
-
 unless-refused : {A B : Type 0} (k r n : ℕ) (y : A) (z : B) → unless k y ≡ refused n → unless (orElse k r) z ≡ refused n
 unless-refused zero r n y z e = let q : _≡_ {A = ℕ} 0 1 = cc in absurd (omega arith)
 unless-refused (suc k) r n y z e = cc

@@ -1,8 +1,8 @@
 -- The groups of the new A, by where they come from, are those that an edit of A gives. Assumes nothing.
-use mathlib.Core.Path.{_≡_, ap, sym, _∙_}
+use mathlib.Core.Path.{_≡_, refl, ap, sym, _∙_}
 use mathlib.Core.List.{List, [], _++_, map}
 use mathlib.Core.Bool.{Bool, true, false, cond, _||_}
-use Prim.Native.Nat.{ℕ, _+_, _≤_}
+use Prim.Native.Nat.{ℕ, _+_, _≤_, _<_}
 use native.Mathlib.Omega.{arith}
 use lib.ListN.{length, take, drop, length-append, length-map, length-drop, drop-of-length-le}
 use lib.Seq.{take-add, take-at, drop-at, length-take-le}
@@ -26,7 +26,7 @@ use Rattle.changes.specs.Changes.{takenBy, putBy}
 use Rattle.changes.specs.Drafts.{touched, aroundOf}
 use Rattle.draft.specs.declared.Around.{Around}
 use Rattle.draft.proofs.Runs.{groups-front, groups-count}
-use Rattle.changes.proofs.Changes.{taken-is, put-is}
+use Rattle.changes.proofs.Changes.{taken-is, put-is, few}
 use Rattle.draft.specs.Arounds.{keptSlots, slotsAround, Placed}
 
 -- how many groups there are around a change
@@ -125,7 +125,7 @@ module _ (i : ℕ) (c : Change) (s : List ℕ) (l : List Rule) (there : i + out 
         let a = all-is in
         let e = count-is in
         let f = new-length in
-        record { earlier = omega arith; before = omega (arith, denies-most (front i l), front-long); upTo = omega arith; inGate = omega arith; later = omega arith; fits = omega arith }
+        record { earlier = omega arith; between = omega arith; before = omega (arith, denies-most (front i l), front-long); upTo = omega arith; inGate = omega arith; later = omega arith; fits = omega arith }
     placed false h =
         let a = all-is in
         let b = later-is in
@@ -133,6 +133,7 @@ module _ (i : ℕ) (c : Change) (s : List ℕ) (l : List Rule) (there : i + out 
         let f = new-length in
         record {
           earlier = omega arith;
+          between = omega arith;
           before = omega (arith, denies-most (front i l), front-long);
           upTo = omega arith;
           inGate = omega arith;
@@ -143,3 +144,12 @@ module _ (i : ℕ) (c : Change) (s : List ℕ) (l : List Rule) (there : i + out 
     pub gate-placed : n ≤ limits .gate → Placed (aroundOf i c l new) n
     unfolding aroundOf
     gate-placed h = placed (touched i c l new) h
+
+    -- with more than one rule to work out, no group is kept behind the place
+    wide : (t : Bool) → i + 1 < cond t (length new) (i + putBy c) → cond t (denies l) (denies (take (i + takenBy c) l)) ≡ denies l
+    wide true h = refl
+    wide false h = absurd (omega (arith, few c .1))
+
+    pub gate-wide : aroundOf i c l new .place + 1 < aroundOf i c l new .to → aroundOf i c l new .later ≡ aroundOf i c l new .groups
+    unfolding aroundOf
+    gate-wide h = wide (touched i c l new) h

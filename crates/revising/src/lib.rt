@@ -11,6 +11,7 @@ use policy::OWN_MOST;
 use policy::RECORD_BYTES;
 use policy::Refusal;
 use policy::TOTAL_MOST;
+use regrouping::settle;
 use sheet::ORDER_BYTES;
 use sheet::PairParts;
 use sheet::Section;
@@ -47,7 +48,7 @@ fn revise_gate_with(
             own,
             middle: _,
             third,
-            boxes: _,
+            boxes,
         } => match change_list(&sheet[..third], gate, place, change, new, order) {
             Answer::Refused(f) => Answer::Refused(f),
             Answer::Length(end) => match sheet::read_section(&order[..end], GATE_MOST) {
@@ -65,7 +66,18 @@ fn revise_gate_with(
                         renewed,
                     );
                     let from = third + COUNT_BYTES;
-                    planner::finish(sheet, used, from, &order[..end], renewed, own, around, work)
+                    settle(
+                        sheet,
+                        used,
+                        from,
+                        gate,
+                        &order[..end],
+                        renewed,
+                        own,
+                        around,
+                        boxes,
+                        work,
+                    )
                 }
             },
         },

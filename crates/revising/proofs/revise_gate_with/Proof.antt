@@ -16,7 +16,7 @@ use Rattle.sheet.proofs.Accepted.{PairAccepted, pair-refused, pair-accepted}
 use Rattle.planner.proofs.Finished.{refuses}
 use Rattle.changes.specs.Changes.{changedBytes, ListChanged}
 use Rattle.revising.proofs.Revised.{pair-faulty}
-use Rattle.revising.proofs.Gate.{gate-inside, lists-long, gate-some, gate-refused, gate-end, gate-faulty, gate-places, gate-finishing, gate-done}
+use Rattle.revising.proofs.Gate.{gate-inside, lists-long, gate-some, gate-refused, gate-end, gate-faulty, gate-places, gate-settling, gate-done}
 use Rattle.revising.proofs.revise_gate_with.Statement.{statement}
 use Rattle.revising.proofs.revise_gate_with.Tie as tie
 
@@ -134,18 +134,18 @@ places-requires c κs =
 add-from : tie.Need-add-from
 add-from c = let k : tie.After-gate = c .before .before .before .before .before .before .before .before .before .before .before .before .before .before .before .before .before in omega (arith, inside k)
 
-slice-reshare-prefix-finish : tie.Need-slice-reshare-prefix-finish
-slice-reshare-prefix-finish c = let e = ends (c .before .before .before .before .before .before .before .before .before .before) in omega arith
+slice-reshare-prefix-settle : tie.Need-slice-reshare-prefix-settle
+slice-reshare-prefix-settle c = let e = ends (c .before .before .before .before .before .before .before .before .before .before) in omega arith
 
-slice-aggregate-finish : tie.Need-slice-aggregate-finish
-slice-aggregate-finish c = let e = ends (c .before .before .before .before .before .before .before .before .before .before .before) in simp length-take (omega (arith, e))
+slice-aggregate-settle : tie.Need-slice-aggregate-settle
+slice-aggregate-settle c = let e = ends (c .before .before .before .before .before .before .before .before .before .before .before) in simp length-take (omega (arith, e))
 
-finish-requires : tie.Need-finish-requires
-finish-requires c κs =
+settle-requires : tie.Need-settle-requires
+settle-requires c κs =
     let r : tie.After-renewed = c .before .before .before .before .before .before .before in
     let k : tie.After-end = r .before .before .before .before .before in
     let arg = k .before .before .before .before .before .before .before .before .before .before .before .before .before .before .before .before .args in
-    gate-finishing (read (g k)) (arg .place) (arg .change) (arg .new .now) (new (g k)) (changed k) (k .before .before .before .before .before .before .before .before .before .before .before .before .before .before .before .before .pre .2) (r .before .before .read-section .ensures) _ _ (r .renewed .given .1) (arg .sheet .now) (arg .used) refl (k .before .before .before .before .before .before .before .before .before .before .before .before .before .before .before .before .pre .1) _ (c .before .before .before .places .ensures) (k .before .before .before .before .before .before .before .before .before .before .before .before .before .before .before .before .pre .0) (k .before .before .before .before .before .before .before .before .before .before .before .before .before .before .before .before .pre .3)
+    gate-settling (read (g k)) (arg .place) (arg .change) (arg .new .now) (new (g k)) (changed k) (k .before .before .before .before .before .before .before .before .before .before .before .before .before .before .before .before .pre .2) (r .before .before .read-section .ensures) _ _ (r .renewed .given .1) (arg .sheet .now) (arg .used) refl (k .before .before .before .before .before .before .before .before .before .before .before .before .before .before .before .before .pre .1) _ (c .before .before .before .places .ensures) (k .before .before .before .before .before .before .before .before .before .before .before .before .before .before .before .before .pre .0) (k .before .before .before .before .before .before .before .before .before .before .before .before .before .before .before .before .pre .3)
 
 same-length : tie.Need-same-length
 same-length c = search needs
@@ -194,7 +194,7 @@ returns-4 c =
     let r : tie.After-renewed = c .before .before .before .before .before .before .before .before .before .before .before .before in
     let k : tie.After-end = r .before .before .before .before .before in
     let arg = k .before .before .before .before .before .before .before .before .before .before .before .before .before .before .before .before .args in
-    gate-done (read (g k)) (arg .place) (arg .change) (arg .new .now) (new (g k)) (changed k) (k .before .before .before .before .before .before .before .before .before .before .before .before .before .before .before .before .pre .2) (r .before .before .read-section .ensures) _ _ (r .renewed .given .1) (arg .sheet .now) (arg .used) refl (k .before .before .before .before .before .before .before .before .before .before .before .before .before .before .before .before .pre .1) _ (c .before .before .before .before .before .before .before .before .places .ensures) (c .before .before .before .before .finish .ensures)
+    gate-done (read (g k)) (arg .place) (arg .change) (arg .new .now) (new (g k)) (changed k) (k .before .before .before .before .before .before .before .before .before .before .before .before .before .before .before .before .pre .2) (r .before .before .read-section .ensures) _ _ (r .renewed .given .1) (arg .sheet .now) (arg .used) refl (k .before .before .before .before .before .before .before .before .before .before .before .before .before .before .before .before .pre .1) _ (c .before .before .before .before .before .before .before .before .places .ensures) (c .before .before .before .before .settle .ensures)
 
 pub revise-gate-with-spec : {M : Type 1} → statement M
 revise-gate-with-spec =
@@ -221,9 +221,9 @@ revise-gate-with-spec =
     slice-aggregate-places-2
     places-requires
     add-from
-    slice-reshare-prefix-finish
-    slice-aggregate-finish
-    finish-requires
+    slice-reshare-prefix-settle
+    slice-aggregate-settle
+    settle-requires
     same-length
     returns
     same-length-2

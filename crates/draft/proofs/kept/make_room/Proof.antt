@@ -2,9 +2,9 @@
 use borrow.Author.Needs.{needs}
 use native.Mathlib.Omega.{arith}
 use lib.ListN.{length-take, length-drop}
-use Rattle.changes.proofs.Puts.{room-up, room-down, room-kept}
-use Rattle.changes.proofs.make_room.Statement.{statement}
-use Rattle.changes.proofs.make_room.Tie as tie
+use Rattle.draft.proofs.Rooms.{room-up, room-down, room-kept}
+use Rattle.draft.proofs.kept.make_room.Statement.{statement}
+use Rattle.draft.proofs.kept.make_room.Tie as tie
 
 sub-copy-up : tie.Need-sub-copy-up
 sub-copy-up c = search needs

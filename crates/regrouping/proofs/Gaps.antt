@@ -1,0 +1,115 @@
+-- What the last step of an edit that touches no allow knows: the gap in section C, and what is joined around it. Assumes nothing.
+use mathlib.Core.Path.{_≡_, ap, sym, _∙_}
+use mathlib.Core.List.{List, _++_}
+use mathlib.Core.Bool.{true, false}
+use Prim.Native.Nat.{ℕ, _+_, _*_, _-_, _≤_, _<_}
+use native.Mathlib.Omega.{arith}
+use lib.ListN.{length, take, drop, length-append, length-drop}
+use lib.Seq.{drop-drop, length-take-le}
+use Rattle.lists.specs.Lists.{Each}
+use Rattle.policy.specs.Fields.{countSize, recordSize, limits}
+use Rattle.policy.specs.Ranges.{Region}
+use Rattle.policy.specs.Move.{Slot, boxesOf, together, anyOver}
+use Rattle.policy.proofs.Edits.{kept-boxes, kept-over, over-append, together-append}
+use Rattle.lists.proofs.Lists.{map-append}
+use Rattle.wire.specs.Numbers.{Byte}
+use Rattle.sheet.specs.Pairs.{groupsBytes}
+use Rattle.sheet.specs.Readers.{groupsFrom}
+use Rattle.draft.specs.Drafts.{stretch, slotGroups}
+use Rattle.draft.specs.Arounds.{boxesBefore, runSize, GroupsHeld, keptSlots, slotsBehind, Told, Behind}
+use Rattle.draft.specs.declared.Drafted.{Drafted}
+use Rattle.draft.specs.declared.Drafted.the-variants.{Groups, TooManyPieces}
+use Rattle.draft.specs.declared.Around.{Around}
+use Rattle.draft.specs.declared.kept.Gap.{Gap}
+use Rattle.draft.proofs.Drafts.{groupsBytes-append}
+use Rattle.draft.proofs.Runs.{boxes-split, held-front, held-behind}
+use Rattle.planner.specs.Steps.{partOf, Finishing}
+use Rattle.planner.proofs.Finished.{part-is, rules-good}
+use Rattle.regrouping.specs.Regroups.{Gathering, Joined, Gathered, Regrouping}
+
+module _ {sheet order w : List ℕ} {used from count gate own boxes : ℕ} {v : Around} (ready : Regrouping sheet used from count order gate own v boxes w) where
+  abbrev groups : List ℕ
+  groups = partOf from used sheet
+
+  abbrev finishing : Finishing sheet used from count order gate own v w
+  finishing = ready .finishing
+
+  pub groups-long : length groups ≡ used - from
+  groups-long = length-take-le (used - from) (drop from sheet) (rw length-drop (omega (arith, finishing .start, finishing .end)))
+
+  -- what is behind a place of section C
+  pub part-behind : (k : ℕ) → from + k ≤ used → partOf (from + k) used sheet ≡ drop k groups
+  part-behind k h =
+      part-is (from + k) used sheet h (finishing .end) ∙ sym (drop-drop k from (take used sheet))
+      ∙ ap (drop k) (sym (part-is from used sheet (finishing .start) (finishing .end)))
+
+  later-held : GroupsHeld groups (v .later)
+  later-held = held-front (v .later) (v .groups) groups (finishing .placed .later) (finishing .held)
+
+  module _ (gone : ℕ) (is : gone ≡ v .later - v .earlier) where
+    sum : v .earlier + gone ≡ v .later
+    sum = omega (arith, finishing .placed .between)
+
+    pub gap-there : runSize (v .earlier + gone) groups ≤ length groups
+    gap-there = rw sum (later-held .there)
+
+    module _ (gap : Gap) (found : (gap .at ≡ runSize (v .earlier) groups) × (gap .next ≡ runSize (v .earlier + gone) groups) × (gap .boxes + boxesBefore (v .earlier) groups ≡ boxesBefore (v .earlier + gone) groups)) where
+      next-is : gap .next ≡ runSize (v .later) groups
+      next-is = rw sum at (found .1)
+
+      lost-is : gap .boxes + boxesBefore (v .earlier) groups ≡ boxesBefore (v .later) groups
+      lost-is = rw sum at (found .2)
+
+      behind-boxes : boxesBefore (v .groups) groups ≡ boxesBefore (v .later) groups + length (together (drop (v .later) (groupsFrom (v .groups) groups)))
+      behind-boxes = boxes-split (v .later) (v .groups) groups (finishing .placed .later) (finishing .held)
+
+      pub gap-boxes : gap .boxes ≤ boxes
+      gap-boxes = omega (arith, lost-is, behind-boxes, ready .all)
+
+      pub gap-inside : gap .next ≤ length groups
+      gap-inside = omega (arith, next-is, later-held .there)
+
+      pub back-is : drop (gap .next) groups ≡ groupsBytes (drop (v .later) (groupsFrom (v .groups) groups))
+      back-is = rw next-is (held-behind (v .later) (v .groups) groups (finishing .placed .later) (finishing .held) (ready .exact))
+
+      module _ (bytes : Each Byte order) (rules back : List ℕ) (rules-are : rules ≡ drop countSize order) (back-are : back ≡ drop (gap .next) groups) where
+        pub gathering : Gathering rules (v .place) (v .to) (boxes - gap .boxes) back w
+        gathering =
+            let q = finishing .placed in
+            let g = rules-good finishing bytes (v .to) (q .inGate) in
+            let l : length back ≡ length groups - gap .next = ap length back-are ∙ length-drop (gap .next) groups in
+            record {
+              records = rw rules-are (g .0);
+              rulesSound = rw rules-are (g .1);
+              upTo = q .upTo;
+              one = ready .one;
+              few = omega (arith, finishing .held .few, ready .all);
+              size = omega (arith, ready .exact, next-is, lost-is, behind-boxes, ready .all, q .fits, q .later);
+              workRoom = finishing .workRoom;
+            }
+
+        -- what is joined is what stands behind the groups before the place
+        abbrev anew : List Slot
+        anew = stretch (v .place) (v .to) (drop countSize order)
+
+        abbrev later : List (List Region)
+        later = drop (v .later) (groupsFrom (v .groups) groups)
+
+        joined-behind : (r : Drafted) (s : List ℕ) → Joined anew (boxes - gap .boxes) back r s → Behind (slotsBehind v groups (drop countSize order)) (boxesBefore (v .earlier) groups) r s
+        unfolding Joined Told
+        joined-behind TooManyPieces s y = record { told = over-append (limits .pieces) anew (keptSlots (v .later) (v .groups) groups) ∙ rw y }
+        joined-behind (Groups b n) s y =
+            let f : slotGroups (slotsBehind v groups (drop countSize order)) ≡ slotGroups anew ++ later = map-append boxesOf anew _ ∙ ap (λ (t : List (List Region)). slotGroups anew ++ t) (kept-boxes later) in
+            let l : length (together (slotGroups anew ++ later)) ≡ length (together (slotGroups anew)) + length (together later) = rw (together-append (slotGroups anew) later) (length-append (together (slotGroups anew)) (together later)) in
+            let e = y .1 in
+            record {
+              told = (
+                over-append (limits .pieces) anew (keptSlots (v .later) (v .groups) groups) ∙ rw (y .0, kept-over (limits .pieces) later),
+                rw f (omega (arith, lost-is, behind-boxes, ready .all)),
+                λ t. let u = y .2 t in (u .0, u .1 ∙ rw (f, groupsBytes-append (slotGroups anew) later, back-are, back-is)),
+              );
+            }
+
+        pub gap-behind : (q r : Drafted) → q ≡ r → {w′ : List ℕ} → Gathered rules (v .place) (v .to) (boxes - gap .boxes) back w q w′
+            → Behind (slotsBehind v groups (drop countSize order)) (boxesBefore (v .earlier) groups) r w′
+        gap-behind q r e {w′} x = joined-behind r w′ (rw (e, rules-are) at (x .joined))
