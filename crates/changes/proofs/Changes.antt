@@ -144,14 +144,14 @@ change-done s count place change new {out} {out′} {end} there roomy c =
     go true false y e r = let z : _≡_ {A = ℕ} 0 1 = cc in absurd (omega arith)
     go false w y e r = let z : _≡_ {A = ℕ} 0 1 = cc in absurd (omega arith)
 
--- The bytes of a list changed, and what stands behind it.
-pub list-spliced : (y s new : List ℕ) (l : List Rule) (count place : ℕ) (change : Change) → Each RuleFits l → length l ≡ count
-    → s ≡ listBytes l ++ y → place + takenBy change ≤ count → wholeRecord change new ≡ true → Each Byte new
-    → newBytes s count place change new ≡ listBytes (changed place (kindOf change new) l) ++ y
-list-spliced y s new l count place change fits counted is found w b =
+-- The bytes of a list changed are those of the changed list.
+pub list-spliced : (new : List ℕ) (l : List Rule) (count place : ℕ) (change : Change) → Each RuleFits l → length l ≡ count
+    → place + takenBy change ≤ count → wholeRecord change new ≡ true → Each Byte new
+    → newBytes (listBytes l) count place change new ≡ listBytes (changed place (kindOf change new) l)
+list-spliced new l count place change fits counted found w b =
     let k : Kind = kindOf change new in
     let t = taken-is change new in
     let p = put-is change new in
     let h : place + out k ≤ length l = omega arith in
     let c = changed-length place k l h in
-    rw (← t) (section-spliced y (take (recordSize * putBy change) new) l place k s (count - out k + putBy change) fits h is (put-bytes-are change new w b) (omega arith))
+    rw (← t) (section-spliced (take (recordSize * putBy change) new) l place k (count - out k + putBy change) fits h (put-bytes-are change new w b) (omega arith))

@@ -57,12 +57,12 @@ parts-spliced s c f g b new count place out e lc lf lg =
     let last : drop (countSize + recordSize * place + recordSize * out) s ≡ b = ap (drop (countSize + recordSize * place + recordSize * out)) three ∙ drop-at (c ++ (f ++ g)) b _ l₃ in
     rw (mid, last, take-at f (g ++ b) (recordSize * place) lf)
 
--- a list changed in front of what stands behind it
-pub section-spliced : (y new : List ℕ) (l : List Rule) (i : ℕ) (k : Kind) (s : List ℕ) (count : ℕ) → Each RuleFits l → i + out k ≤ length l
-    → s ≡ listBytes l ++ y → new ≡ recordsBytes (put k) → count ≡ length (changed i k l)
-    → spliced s count i (out k) new ≡ listBytes (changed i k l) ++ y
+-- the bytes of a list changed
+pub section-spliced : (new : List ℕ) (l : List Rule) (i : ℕ) (k : Kind) (count : ℕ) → Each RuleFits l → i + out k ≤ length l
+    → new ≡ recordsBytes (put k) → count ≡ length (changed i k l)
+    → spliced (listBytes l) count i (out k) new ≡ listBytes (changed i k l)
 unfolding listBytes
-section-spliced y new l i k s count fits h e en ec =
+section-spliced new l i k count fits h en ec =
     let f : List Rule = front i l in
     let g : List Rule = gone i k l in
     let b : List Rule = back i k l in
@@ -70,9 +70,9 @@ section-spliced y new l i k s count fits h e en ec =
     let lg : length g ≡ out k = length-take-le (out k) (drop i l) (rw length-drop (omega arith)) in
     let whole : recordsBytes l ≡ recordsBytes f ++ (recordsBytes g ++ recordsBytes b) =
     ap recordsBytes (sym (three-parts i (out k) l)) ∙ records-append f (g ++ b) ∙ ap (λ (t : List ℕ). recordsBytes f ++ t) (records-append g b) in
-    let parts : s ≡ numberBytes countSize (length l) ++ (recordsBytes f ++ (recordsBytes g ++ (recordsBytes b ++ y))) =
-    e ∙ rw (whole, append-assoc (numberBytes countSize (length l)) (recordsBytes f ++ (recordsBytes g ++ recordsBytes b)) y, append-assoc (recordsBytes f) (recordsBytes g ++ recordsBytes b) y, append-assoc (recordsBytes g) (recordsBytes b) y) in
-    let done = parts-spliced s (numberBytes countSize (length l)) (recordsBytes f) (recordsBytes g) (recordsBytes b ++ y) new count i (out k) parts (numberBytes-length countSize (length l))
+    let parts : numberBytes countSize (length l) ++ recordsBytes l ≡ numberBytes countSize (length l) ++ (recordsBytes f ++ (recordsBytes g ++ recordsBytes b)) =
+    ap (λ (t : List ℕ). numberBytes countSize (length l) ++ t) whole in
+    let done = parts-spliced (numberBytes countSize (length l) ++ recordsBytes l) (numberBytes countSize (length l)) (recordsBytes f) (recordsBytes g) (recordsBytes b) new count i (out k) parts (numberBytes-length countSize (length l))
     (recordsBytes-length f (each-take RuleFits i l fits) ∙ ap (λ (n : ℕ). recordSize * n) lf)
     (recordsBytes-length g (each-take RuleFits (out k) (drop i l) (each-drop RuleFits i l fits)) ∙ ap (λ (n : ℕ). recordSize * n) lg) in
-    done ∙ rw (en, ec, records-append f (put k ++ b), records-append (put k) b, append-assoc (numberBytes countSize (length (changed i k l))) (recordsBytes f ++ (recordsBytes (put k) ++ recordsBytes b)) y, append-assoc (recordsBytes f) (recordsBytes (put k) ++ recordsBytes b) y, append-assoc (recordsBytes (put k)) (recordsBytes b) y)
+    done ∙ rw (en, ec, records-append f (put k ++ b), records-append (put k) b)

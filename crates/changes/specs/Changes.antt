@@ -1,4 +1,4 @@
--- The bytes that an edit makes of a sheet's, one list of it changed (01, Calls and Numbers given back). Assumes nothing.
+-- The bytes that an edit makes of a list's (01, Calls and Numbers given back). Assumes nothing.
 use mathlib.Core.Path.{_≡_}
 use mathlib.Core.List.{List, [], _++_}
 use Prim.Native.Nat.{ℕ, _+_, _*_, _-_}
@@ -21,8 +21,8 @@ takenBy c = out (kindOf c [])
 abbrev pub putBy : Change → ℕ
 putBy c = length (put (kindOf c []))
 
--- Bytes that begin with a list, with that list changed: its new count, its records before the place, the bytes put in, and all
--- that stands behind the records taken out.
+-- The bytes of a list, changed: its new count, its records before the place, the bytes put in, and what stands behind the records
+-- taken out.
 unfoldable pub spliced : List ℕ → ℕ → ℕ → ℕ → List ℕ → List ℕ
 spliced s count place out new =
     numberBytes countSize count

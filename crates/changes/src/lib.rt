@@ -1,4 +1,4 @@
-// What an edit changes: the bytes of a sheet with one of its lists changed, and where the groups of the new A come from.
+// What an edit changes: a list in bytes, put in the place of the old one, and where the groups of the new A come from.
 use draft::Around;
 use draft::kept;
 use planner::Change;
@@ -54,7 +54,7 @@ fn is_whole(change: Change, new: &[u8]) -> bool
     }
 }
 
-// The bytes, which begin with a list, with that list changed, at the front of the buffer; their length.
+// The bytes of a list with so many records taken out at a place, and others put in there, at the front of the buffer; their length.
 fn splice(out: &mut [u8], s: &[u8], count: usize, place: usize, taken: usize, new: &[u8]) -> usize
     requires { ⌜ (count < 65536) × (countSize + recordSize * place + recordSize * taken ≤ length (now s)) × (length (now s) + length (now new) ≤ length (now out)) ⌝ }
     ensures { λ r. ⌜ (r ≡ length (spliced (now (s .entry)) count place taken (now (new .entry)))) × (now (out .exit) ≡ sets (now (out .entry)) 0 (spliced (now (s .entry)) count place taken (now (new .entry)))) ⌝ }
@@ -67,8 +67,7 @@ fn splice(out: &mut [u8], s: &[u8], count: usize, place: usize, taken: usize, ne
     wire::put_bytes(out, end, &s[next..])
 }
 
-// The bytes, which begin with a list of `count` rules, with that list changed, at the front of the buffer, and their length; or 9,
-// or 3 for the record.
+// The bytes of a list of `count` rules, changed, at the front of the buffer, and their length; or 9, or 3 for the record.
 pub fn change_list(
     s: &[u8],
     count: usize,

@@ -1,11 +1,11 @@
 -- What stands behind a list moved along, and the pair sheet put together around what was moved. Assumes nothing.
-use mathlib.Core.Path.{_≡_, ap, sym, _∙_}
-use mathlib.Core.List.{List, _++_, append-assoc}
+use mathlib.Core.Path.{_≡_, refl, ap, sym, _∙_}
+use mathlib.Core.List.{List, [], _++_, append-assoc}
 use Prim.Native.Nat.{ℕ, _+_, _-_, _≤_, _<_}
 use native.Mathlib.Omega.{arith}
 use lib.ListN.{length, take, drop, length-append, length-drop, take-append-drop}
-use lib.Seq.{sets, take-all, take-at, drop-at, drop-drop, take-add, length-sets, length-take-le}
-use Rattle.lists.proofs.Lists.{take-sets, sets-parts, sets-append}
+use lib.Seq.{sets, take-all, take-at, drop-at, drop-drop, take-add, length-take-le}
+use Rattle.lists.proofs.Lists.{sets-parts}
 use Rattle.lists.proofs.Parts.{tail-whole, tail-back}
 use Rattle.policy.specs.Fields.{countSize, recordSize, limits}
 use Rattle.wire.specs.Numbers.{numberBytes}
@@ -13,7 +13,7 @@ use Rattle.wire.specs.Buffers.{zeroed, filled, copiedDown, copiedUp}
 use Rattle.wire.proofs.Buffers.{filled-is}
 use Rattle.wire.proofs.Numbers.{numberBytes-length}
 use Rattle.sheet.specs.Pairs.{pairSize}
-use Rattle.draft.specs.Sheets.{sheetOf, movedTo, RoomReady, AroundPut}
+use Rattle.draft.specs.Sheets.{partOf, sheetAround, movedTo, RoomReady, AroundPut}
 
 module _ {s : List ℕ} {next behind count renewed : ℕ} (h : RoomReady s next behind count renewed) where
   abbrev part : List ℕ
@@ -50,62 +50,89 @@ module _ {s : List ℕ} {next behind count renewed : ℕ} (h : RoomReady s next 
       let d : drop (next + length part) s ≡ drop behind (drop next s) = ap (λ (n : ℕ). drop (next + n) s) part-long ∙ sym (drop-drop behind next s) in
       rw (e, sets-parts s next part (omega (arith, part-long, h .old)), d, take-append-drop behind (drop next s)) (sym (take-append-drop next s))
 
-module _ {s order behind : List ℕ} {from size count renewed groups rest : ℕ} (h : AroundPut s from size count order renewed groups rest behind) where
+-- a run of stores with what is before it and behind it known
+stored : (c x y z v : List ℕ) (i : ℕ) → c ≡ x ++ (y ++ z) → length x ≡ i → length y ≡ length v → sets c i v ≡ x ++ (v ++ z)
+stored c x y z v i e l k =
+    let n : i + length v ≤ length c = rw (e, length-append, length-append) (omega arith) in
+    let t : take i c ≡ x = ap (take i) e ∙ take-at x (y ++ z) i l in
+    let d : drop (i + length v) c ≡ z = sym (drop-drop (length v) i c) ∙ ap (drop (length v)) (ap (drop i) e ∙ drop-at x (y ++ z) i l) ∙ drop-at y z (length v) k in
+    sets-parts c i v n ∙ rw (t, d)
+
+module _ {s list behind : List ℕ} {middle third size count renewed groups rest : ℕ} (h : AroundPut s middle third size count list renewed groups rest behind) where
+  abbrev own : List ℕ
+  own = partOf middle third s
+
   abbrev front : List ℕ
-  front = take size (drop from s)
+  front = take size (drop (third + countSize) s)
 
-  abbrev head : List ℕ
-  head = order ++ numberBytes countSize groups
+  abbrev number : List ℕ
+  number = numberBytes countSize groups
 
-  pub around-room : RoomReady s from size count renewed
-  around-room = record { more = h .more; less = h .less; front = h .front; old = h .old; new = omega (arith, h .moved, h .fits, h .room) }
+  abbrev moving : ℕ
+  moving = third - middle + countSize + size
+
+  pub around-room : RoomReady s middle moving count renewed
+  around-room = record { more = h .more; less = h .less; front = h .front; old = omega (arith, h .old, h .upTo); new = omega (arith, h .moved, h .fits, h .room, h .upTo) }
+
+  own-long : length own ≡ third - middle
+  own-long = length-take-le (third - middle) (drop middle s) (rw length-drop (omega (arith, h .old, h .upTo)))
 
   front-long : length front ≡ size
-  front-long = part-long around-room
+  front-long = length-take-le size (drop (third + countSize) s) (rw length-drop (omega (arith, h .old)))
 
-  head-long : length head ≡ length order + countSize
-  head-long = length-append order (numberBytes countSize groups) ∙ ap (λ (n : ℕ). length order + n) (numberBytes-length countSize groups)
+  -- what is moved: B, the count behind it, the first groups
+  moved-is : take moving (drop middle s) ≡ own ++ (take countSize (drop third s) ++ front)
+  moved-is =
+      let i : moving ≡ third - middle + (countSize + size) = omega arith in
+      let j : middle + (third - middle) ≡ third = omega (arith, h .upTo) in
+      ap (λ (n : ℕ). take n (drop middle s)) i ∙ take-add (third - middle) (countSize + size) (drop middle s)
+      ∙ ap (λ (l : List ℕ). own ++ l) (rw (drop-drop (third - middle) middle s, j, take-add countSize size (drop third s), drop-drop countSize third s))
 
   abbrev content : List ℕ
-  content = sheetOf order groups (front ++ behind)
+  content = sheetAround s middle third size list groups behind
 
-  content-is : content ≡ head ++ (front ++ behind)
-  content-is = sym (append-assoc order (numberBytes countSize groups) (front ++ behind))
+  content-long : length content ≡ length list + (third - middle) + countSize + size + length behind
+  content-long = rw (length-append, length-append, length-append, length-append, own-long, front-long, numberBytes-length) (omega arith)
 
-  pub content-long : length content ≡ length order + countSize + size + length behind
-  content-long = ap length content-is ∙ length-append head (front ++ behind) ∙ rw (length-append front behind) (omega (arith, head-long, front-long))
-
-  -- the front moved, the order, the count and the groups behind the front written, zeros behind them
-  pub around-put : (c₀ c₁ c₂ c₃ last : List ℕ) (middle start end : ℕ) → c₀ ≡ sets s (movedTo from count renewed) front → (middle ≡ 0 + length order) × (c₁ ≡ sets c₀ 0 order)
-      → c₂ ≡ sets c₁ middle (numberBytes countSize groups) → start ≡ middle + countSize + size → c₃ ≡ sets c₂ start behind → end ≡ start + length behind
+  -- what stands there moved, A, the count and the groups behind the first ones written, zeros behind them
+  pub around-put : (c₀ c₁ c₂ c₃ last : List ℕ) (next at start end : ℕ) → c₀ ≡ sets s (movedTo middle count renewed) (take moving (drop middle s)) → (next ≡ 0 + length list) × (c₁ ≡ sets c₀ 0 list)
+      → at ≡ next + (third - middle) → c₂ ≡ sets c₁ at number → start ≡ at + countSize + size → c₃ ≡ sets c₂ start behind → end ≡ start + length behind
       → last ≡ zeroed end (pairSize limits) c₃
       → (end ≡ length content) × (last ≡ filled (pairSize limits) s content)
-  around-put c₀ c₁ c₂ c₃ last middle start end e₀ e₁ e₂ es e₃ ee el =
+  around-put c₀ c₁ c₂ c₃ last next at start end e₀ e₁ ea e₂ es e₃ ee el =
       let k = h .fits in
       let m = h .room in
-      let hl = head-long in
+      let ol = own-long in
       let fl = front-long in
-      let f₀ : c₀ ≡ sets s (length head) front = e₀ ∙ ap (λ (i : ℕ). sets s i front) (omega (arith, h .moved)) in
-      let p₀ : c₀ ≡ take (length head) s ++ (front ++ drop (length head + length front) s) = f₀ ∙ sets-parts s (length head) front (omega arith) in
-      let l₀ : length c₀ ≡ length s = ap length f₀ ∙ length-sets s (length head) front in
-      let f₂ : c₂ ≡ sets c₀ 0 head = e₂ ∙ rw (e₁ .1, e₁ .0) (sym (sets-append c₀ 0 order (numberBytes countSize groups))) in
-      let z : 0 + length head ≡ length head = omega arith in
-      let d₀ : drop (length head) c₀ ≡ front ++ drop (length head + length front) s =
-      ap (drop (length head)) p₀ ∙ drop-at (take (length head) s) (front ++ drop (length head + length front) s) (length head) (length-take-le (length head) s (omega arith)) in
-      let p₂ : c₂ ≡ head ++ (front ++ drop (length head + length front) s) = f₂ ∙ sets-parts c₀ 0 head (omega arith) ∙ rw (z, d₀) in
-      let q₂ : c₂ ≡ (head ++ front) ++ drop (length head + length front) s = p₂ ∙ sym (append-assoc head front (drop (length head + length front) s)) in
-      let hf : length (head ++ front) ≡ start = length-append head front ∙ omega (arith, e₁ .0) in
-      let l₂ : length c₂ ≡ length s = ap length f₂ ∙ length-sets c₀ 0 head ∙ l₀ in
-      let t₂ : take start c₂ ≡ head ++ front = ap (take start) q₂ ∙ take-at (head ++ front) (drop (length head + length front) s) start hf in
-      let i : length head + length front ≡ start = omega (arith, e₁ .0) in
-      let d₂ : drop (start + length behind) c₂ ≡ drop end s =
-      sym (drop-drop (length behind) start c₂)
-      ∙ ap (drop (length behind)) (ap (drop start) q₂ ∙ drop-at (head ++ front) (drop (length head + length front) s) start hf ∙ ap (λ (j : ℕ). drop j s) i)
-      ∙ drop-drop (length behind) start s ∙ ap (λ (j : ℕ). drop j s) (sym ee) in
-      let p₃ : c₃ ≡ content ++ drop end s =
-      e₃ ∙ sets-parts c₂ start behind (omega (arith, e₁ .0))
-      ∙ rw (t₂, d₂) (append-assoc head front (behind ++ drop end s) ∙ ap (λ (l : List ℕ). head ++ l) (sym (append-assoc front behind (drop end s))) ∙ sym (append-assoc head (front ++ behind) (drop end s)))
-      ∙ ap (λ (l : List ℕ). l ++ drop end s) (sym content-is) in
+      let nl = numberBytes-length countSize groups in
+      let two : List ℕ = take countSize (drop third s) in
+      let tl : length two ≡ countSize = length-take-le countSize (drop third s) (rw length-drop (omega (arith, h .old))) in
+      let rl = part-long around-room in
+      let z : List ℕ = drop end s in
+      let n : ℕ = length list in
+      let room : n + moving + length behind ≤ length s = omega (arith, h .upTo) in
+      let j : n + moving + length behind ≡ end = omega (arith, e₁ .0) in
+      let last-part : drop (n + moving) s ≡ take (length behind) (drop (n + moving) s) ++ z =
+      sym (take-append-drop (length behind) (drop (n + moving) s)) ∙ ap (λ (l : List ℕ). take (length behind) (drop (n + moving) s) ++ l) (drop-drop (length behind) (n + moving) s ∙ ap (λ (i : ℕ). drop i s) j) in
+      let spare : List ℕ = take (length behind) (drop (n + moving) s) in
+      let sl : length spare ≡ length behind = length-take-le (length behind) (drop (n + moving) s) (rw length-drop (omega arith)) in
+      let hl : length (take n s) ≡ n = length-take-le n s (omega arith) in
+      let p₀ : c₀ ≡ take n s ++ ((own ++ (two ++ front)) ++ (spare ++ z)) =
+      e₀ ∙ ap (λ (i : ℕ). sets s i (take moving (drop middle s))) (sym (h .moved)) ∙ sets-parts s n (take moving (drop middle s)) (omega arith)
+      ∙ ap (λ (i : ℕ). take n s ++ (take moving (drop middle s) ++ drop (n + i) s)) rl ∙ ap (λ (l : List ℕ). take n s ++ (take moving (drop middle s) ++ l)) last-part
+      ∙ ap (λ (l : List ℕ). take n s ++ (l ++ (spare ++ z))) moved-is in
+      let p₁ : c₁ ≡ list ++ ((own ++ (two ++ front)) ++ (spare ++ z)) = e₁ .1 ∙ stored c₀ [] (take n s) ((own ++ (two ++ front)) ++ (spare ++ z)) list 0 p₀ refl hl in
+      let q₁ : c₁ ≡ (list ++ own) ++ (two ++ (front ++ (spare ++ z))) =
+      p₁ ∙ rw (append-assoc own (two ++ front) (spare ++ z), append-assoc two front (spare ++ z)) (sym (append-assoc list own (two ++ (front ++ (spare ++ z))))) in
+      let la : length (list ++ own) ≡ at = length-append list own ∙ omega (arith, e₁ .0) in
+      let p₂ : c₂ ≡ (list ++ own) ++ (number ++ (front ++ (spare ++ z))) = e₂ ∙ stored c₁ (list ++ own) two (front ++ (spare ++ z)) number at q₁ la (omega arith) in
+      let q₂ : c₂ ≡ ((list ++ own) ++ (number ++ front)) ++ (spare ++ z) =
+      p₂ ∙ ap (λ (l : List ℕ). (list ++ own) ++ l) (sym (append-assoc number front (spare ++ z))) ∙ sym (append-assoc (list ++ own) (number ++ front) (spare ++ z)) in
+      let lb : length ((list ++ own) ++ (number ++ front)) ≡ start = rw (length-append, length-append, length-append) (omega (arith, e₁ .0)) in
+      let p₃ : c₃ ≡ ((list ++ own) ++ (number ++ front)) ++ (behind ++ z) = e₃ ∙ stored c₂ ((list ++ own) ++ (number ++ front)) spare z behind start q₂ lb sl in
+      let q₃ : c₃ ≡ content ++ z =
+      p₃ ∙ append-assoc (list ++ own) (number ++ front) (behind ++ z) ∙ ap (λ (l : List ℕ). (list ++ own) ++ l) (append-assoc number front (behind ++ z) ∙ ap (λ (l : List ℕ). number ++ l) (sym (append-assoc front behind z)) ∙ sym (append-assoc number (front ++ behind) z))
+      ∙ sym (append-assoc (list ++ own) (number ++ (front ++ behind)) z) in
       let cl : end ≡ length content = omega (arith, content-long, e₁ .0) in
-      let u : c₃ ≡ take end content ++ drop end s = p₃ ∙ ap (λ (l : List ℕ). l ++ drop end s) (sym (take-all end content (omega arith))) in
+      let u : c₃ ≡ take end content ++ drop end s = q₃ ∙ ap (λ (l : List ℕ). l ++ z) (sym (take-all end content (omega arith))) in
       (cl, filled-is content s c₃ last end (pairSize limits) cl (omega (arith, e₁ .0)) m u el)

@@ -9,19 +9,17 @@ use lib.Seq.{drop-drop, take-all, take-take, take-at, drop-at}
 use Rattle.lists.specs.Lists.{Each}
 use Rattle.lists.proofs.Lists.{each-take}
 use Rattle.lists.proofs.Parts.{tail-whole}
-use Rattle.policy.specs.Fields.{boxSize, countSize, limits}
+use Rattle.policy.specs.Fields.{boxSize, countSize}
 use Rattle.policy.specs.Ranges.{Region}
 use Rattle.policy.specs.Move.{together}
-use Rattle.policy.proofs.Edits.{kept-boxes, kept-over, together-append}
+use Rattle.policy.proofs.Edits.{together-append}
 use Rattle.wire.proofs.Records.{boxesIn-length}
 use Rattle.sheet.specs.Pairs.{groupSize, groupBoxes, groupsBytes}
 use Rattle.sheet.specs.Readers.{groupsFrom}
 use Rattle.sheet.proofs.Pairs.{ProperGroup}
-use Rattle.draft.specs.Drafts.{Drawn, Drafting}
-use Rattle.draft.specs.declared.Drafted.the-variants.{Groups}
 use Rattle.draft.proofs.Drafts.{groupsBytes-append}
 use Rattle.draft.proofs.Laid.{groups-length}
-use Rattle.draft.specs.Arounds.{boxesBefore, runSize, GroupsHeld, keptSlots}
+use Rattle.draft.specs.Arounds.{boxesBefore, runSize, GroupsHeld}
 use Rattle.wire.specs.Lists.{countIn}
 
 boxes-cons : (n : ℕ) (s : List ℕ) → boxesBefore (suc n) s ≡ countIn s + boxesBefore n (drop (groupSize (countIn s)) s)

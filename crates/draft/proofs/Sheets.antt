@@ -3,18 +3,16 @@ use mathlib.Core.Path.{_≡_, ap, sym, _∙_}
 use mathlib.Core.List.{List, _++_}
 use Prim.Native.Nat.{ℕ, zero, suc, _+_, _*_, _-_, _≤_, _<_}
 use native.Mathlib.Omega.{arith}
-use lib.ListN.{length, take, drop, length-append, length-drop}
+use lib.ListN.{length, take, drop, length-drop}
 use lib.Seq.{sets, take-all, take-add, drop-drop, length-sets, length-take-le}
 use Rattle.lists.specs.Lists.{Each}
 use Rattle.lists.proofs.Lists.{sets-append}
-use Rattle.lists.proofs.Parts.{copied-sets, tail-sets}
+use Rattle.lists.proofs.Parts.{tail-sets}
 use Rattle.policy.specs.Fields.{boxSize, countSize}
 use Rattle.wire.specs.Numbers.{numberBytes, Byte}
-use Rattle.wire.specs.Buffers.{zeroed, filled}
-use Rattle.wire.proofs.Buffers.{filled-is}
 use Rattle.wire.proofs.Numbers.{numberBytes-length, bytes-back, bytes-take, bytes-drop}
 use Rattle.sheet.specs.Pairs.{groupSize}
-use Rattle.draft.specs.Sheets.{Laid, sheetOf}
+use Rattle.draft.specs.Sheets.{Laid}
 use Rattle.wire.specs.Lists.{countIn}
 
 -- the count at the front, and the boxes copied behind it

@@ -3,7 +3,7 @@
 use mathlib.Core.List.{List, _++_}
 use Prim.Native.Nat.{ℕ, zero, suc, _+_, _*_, _-_, _≤_, _<_}
 use mathlib.Core.Path.{_≡_}
-use lib.ListN.{length, drop}
+use lib.ListN.{length, take, drop}
 use Rattle.policy.specs.Fields.{countSize, recordSize, limits}
 use Rattle.wire.specs.Numbers.{numberBytes}
 use Rattle.sheet.specs.Pairs.{groupSize, pairSize}
@@ -30,15 +30,26 @@ pub record RoomReady (sheet : List ℕ) (next behind count renewed : ℕ) : Type
   pub old : next + behind ≤ length sheet
   pub new : movedTo next count renewed + behind ≤ length sheet
 
--- What putting the pair sheet together asks for: the first groups are one record at most from where they go, the others lie in
--- the bytes handed over, and all of it fits.
-pub record AroundPut (sheet : List ℕ) (from size count : ℕ) (order : List ℕ) (renewed groups rest : ℕ) (behind : List ℕ) : Type 0 where
+-- The bytes from one place up to another.
+abbrev pub partOf : ℕ → ℕ → List ℕ → List ℕ
+partOf from to s = take (to - from) (drop from s)
+
+-- The pair sheet of a new A and what stands in the sheet: behind `middle` what makes it an order sheet, behind `third` and the count
+-- there the first groups, of so many bytes; and the groups handed over.
+abbrev pub sheetAround : List ℕ → ℕ → ℕ → ℕ → List ℕ → ℕ → List ℕ → List ℕ
+sheetAround s middle third size list groups behind =
+    sheetOf (list ++ partOf middle third s) groups (take size (drop (third + countSize) s) ++ behind)
+
+-- What putting it together asks for: what stands in the sheet is one record at most from where it goes, the groups handed over lie
+-- one behind another, and all of it fits.
+pub record AroundPut (sheet : List ℕ) (middle third size count : ℕ) (list : List ℕ) (renewed groups rest : ℕ) (behind : List ℕ) : Type 0 where
   pub more : renewed ≤ count + 1
   pub less : count ≤ renewed + 1
-  pub front : recordSize * count ≤ from
-  pub old : from + size ≤ length sheet
-  pub moved : length order + countSize ≡ movedTo from count renewed
+  pub front : recordSize * count ≤ middle
+  pub upTo : middle ≤ third
+  pub old : third + countSize + size ≤ length sheet
+  pub moved : length list ≡ movedTo middle count renewed
   pub laid : Laid rest behind
   pub few : groups < 65536
-  pub fits : length order + (countSize + (size + length behind)) ≤ pairSize limits
+  pub fits : length list + (third - middle) + countSize + size + length behind ≤ pairSize limits
   pub room : pairSize limits ≤ length sheet

@@ -5,7 +5,6 @@ use policy::COUNT_BYTES;
 use policy::RECORD_BYTES;
 use sheet::PAIR_BYTES;
 ghost use mathlib.Core.Path.{_≡_};
-ghost use mathlib.Core.List.{_++_};
 ghost use Prim.Native.Nat.{_+_, _≤_};
 ghost use lib.ListN.{length, take, drop};
 ghost use lib.Seq.{sets};
@@ -13,7 +12,7 @@ ghost use Rattle.policy.specs.Fields.{limits};
 ghost use Rattle.wire.specs.Buffers.{filled};
 ghost use Rattle.sheet.specs.Pairs.{pairSize};
 ghost use Rattle.draft.specs.Arounds.{boxesBefore, runSize};
-ghost use Rattle.draft.specs.Sheets.{sheetOf, movedTo, RoomReady, AroundPut};
+ghost use Rattle.draft.specs.Sheets.{sheetAround, movedTo, RoomReady, AroundPut};
 
 // Where the groups before a place end, where those behind the ones that go begin, and how many boxes go.
 pub struct Gap {
@@ -70,26 +69,29 @@ pub fn make_room(sheet: &mut [u8], next: usize, behind: usize, count: usize, ren
     }
 }
 
-// The pair sheet of an order's bytes and so many groups, of which the first `size` bytes stand in the sheet from `from` on, where
-// the A of `count` rules put them, and the rest are handed over; zeros behind it; its length.
+// The pair sheet of a new A and what stands in the sheet: the bytes from `middle` up to `third`, with which they are an order sheet,
+// and so many bytes of groups behind the count there; then the groups handed over, and zeros. The A that stands there has `count`
+// rules. The sheet's length.
 pub fn put_around(
     sheet: &mut [u8],
-    from: usize,
+    middle: usize,
+    third: usize,
     size: usize,
     count: usize,
-    order: &[u8],
+    list: &[u8],
     renewed: usize,
     groups: usize,
     rest: usize,
     behind: &[u8],
 ) -> usize
-    requires { ⌜ AroundPut (now sheet) from size count (now order) renewed groups rest (now behind) ⌝ }
-    ensures { λ r. ⌜ (r ≡ length (sheetOf (now (order .entry)) groups (take size (drop from (now (sheet .entry))) ++ now (behind .entry)))) × (now (sheet .exit) ≡ filled (pairSize limits) (now (sheet .entry)) (sheetOf (now (order .entry)) groups (take size (drop from (now (sheet .entry))) ++ now (behind .entry)))) ⌝ }
+    requires { ⌜ AroundPut (now sheet) middle third size count (now list) renewed groups rest (now behind) ⌝ }
+    ensures { λ r. ⌜ (r ≡ length (sheetAround (now (sheet .entry)) middle third size (now (list .entry)) groups (now (behind .entry)))) × (now (sheet .exit) ≡ filled (pairSize limits) (now (sheet .entry)) (sheetAround (now (sheet .entry)) middle third size (now (list .entry)) groups (now (behind .entry)))) ⌝ }
 {
-    make_room(sheet, from, size, count, renewed);
-    let middle = wire::put_bytes(sheet, 0, order);
-    wire::put_count(sheet, middle, groups);
-    let start = middle + COUNT_BYTES + size;
+    let own = third - middle;
+    make_room(sheet, middle, own + COUNT_BYTES + size, count, renewed);
+    let next = wire::put_bytes(sheet, 0, list);
+    wire::put_count(sheet, next + own, groups);
+    let start = next + own + COUNT_BYTES + size;
     put_groups(sheet, start, rest, behind);
     let end = start + behind.len();
     wire::zero(sheet, end, PAIR_BYTES);

@@ -13,7 +13,7 @@ use Rattle.policy.specs.Fields.{countSize, recordSize, highest, limits}
 use Rattle.policy.specs.Ranges.{Region, proper}
 use Rattle.policy.specs.Rules.{Rule, denies, allowsIn, sound, Proper}
 use Rattle.policy.specs.Refusals.{Outcome, refused, faults, numberOf}
-use Rattle.policy.specs.Move.{Slot, kept, slots, boxesOf, together, anyOver, work, room, Order, Pair}
+use Rattle.policy.specs.Move.{Slot, kept, slots, boxesOf, together, anyOver, work, room, Order, Pair, listRefusal}
 use Rattle.policy.specs.declared.Answer.the-variants.{Length, Refused}
 use Rattle.policy.specs.declared.Refusal.{Refusal}
 use Rattle.policy.specs.declared.Refusal.the-variants.{TooManyBoxes}
@@ -25,7 +25,7 @@ use Rattle.wire.specs.Numbers.{Byte}
 use Rattle.wire.specs.Records.{rulesIn}
 use Rattle.wire.specs.Buffers.{filled, written, lengthOf}
 use Rattle.wire.proofs.Records.{rulesIn-length}
-use Rattle.wire.proofs.Numbers.{numberBytes-length}
+use Rattle.wire.proofs.Numbers.{numberBytes-length, bytes-take, bytes-drop}
 use Rattle.sheet.specs.Orders.{orderBytes}
 use Rattle.sheet.specs.Pairs.{groupsBytes, pairBytes, pairSize}
 use Rattle.sheet.specs.Readers.{rulesOf, listsOf, groupsFrom}
@@ -33,14 +33,14 @@ use Rattle.sheet.proofs.Outcomes.{faultless}
 use Rattle.sheet.proofs.Pairs.{ProperGroup, PairGood, denies-most}
 use Rattle.sheet.proofs.Accepted.{OrderAccepted, order-accepted}
 use Rattle.draft.specs.Drafts.{alone, stretch, slotGroups, draftSize, Ready, DraftedGroups}
-use Rattle.draft.specs.Sheets.{sheetOf, AroundPut}
+use Rattle.draft.specs.Sheets.{partOf, sheetOf, sheetAround, AroundPut}
 use Rattle.draft.specs.declared.Drafted.{Drafted}
 use Rattle.draft.specs.declared.Drafted.the-variants as D
 use Rattle.draft.proofs.Drawn.{drawn-behind}
 use Rattle.draft.proofs.Drafts.{groupsBytes-append, rules-front, rules-sound-front}
 use Rattle.planner.proofs.Good.{pair-short}
 use Rattle.draft.specs.Arounds.{boxesBefore, runSize, GroupsHeld, keptSlots, slotsBehind, slotsAround, Told, Behind}
-use Rattle.planner.specs.Steps.{Writes, slotted, partOf, Finishing, AllAnew}
+use Rattle.planner.specs.Steps.{Writes, slotted, orderOf, groupsAt, Finishing, Finishes, AllAnew}
 use Rattle.draft.specs.declared.Around.{Around}
 use Rattle.draft.proofs.Runs.{groups-count, held-front}
 use Rattle.draft.proofs.Laid.{groups-laid}
@@ -60,6 +60,10 @@ part-is from used sheet h k =
     sym (ap (λ (n : ℕ). drop from (take n sheet)) e ∙ ap (drop from) (take-add from (used - from) sheet)
     ∙ drop-at (take from sheet) (take (used - from) (drop from sheet)) from (length-take-le from sheet (omega arith)))
 
+-- the bytes of the new order sheet
+pub order-bytes : (list sheet : List ℕ) (middle third : ℕ) → Each Byte list → Each Byte sheet → Each Byte (orderOf list middle third sheet)
+order-bytes list sheet middle third a b = each-append Byte list (partOf middle third sheet) a (bytes-take (third - middle) (drop middle sheet) (bytes-drop middle sheet b))
+
 -- groups worked out anew from rules without fault are proper
 stretch-proper : (i to : ℕ) (rules : List ℕ) → i ≤ to → faults (rulesIn to rules) ≡ 0 → Each ProperGroup (map boxesOf (stretch i to rules))
 unfolding allowsIn
@@ -75,7 +79,13 @@ stretch-proper i to rules h f =
     ap (drop (length (map boxesOf before))) m ∙ drop-at (map boxesOf before) _ (length (map boxesOf before)) refl in
     rw (rules-front i to rules h) at (each-imp (Each Proper) ProperGroup _ (λ g q. every-each (proper highest) g q) (rw d at p))
 
-module _ {sheet order w : List ℕ} {used from count gate own : ℕ} {v : Around} (ready : Finishing sheet used from count order gate own v w) (bytes : Each Byte order) where
+module _ {sheet list w : List ℕ} {used middle third count gate own : ℕ} {v : Around} (ready : Finishing sheet used middle third count list gate own v w) (bytes : Each Byte (orderOf list middle third sheet)) where
+  abbrev order : List ℕ
+  order = orderOf list middle third sheet
+
+  abbrev from : ℕ
+  from = third + countSize
+
   a : OrderAccepted order gate own (listSize gate)
   a = order-accepted (ready .reads) bytes gate own (listSize gate) refl
 
@@ -83,22 +93,19 @@ module _ {sheet order w : List ℕ} {used from count gate own : ℕ} {v : Around
   o = listsOf gate own (listSize gate) order
 
   abbrev groups : List ℕ
-  groups = partOf from used sheet
+  groups = groupsAt third used sheet
 
   abbrev anew : List Slot
-  anew = stretch (v .place) (v .to) (drop countSize order)
+  anew = stretch (v .place) (v .to) (drop countSize list)
 
   abbrev behind : List Slot
-  behind = slotsBehind v groups (drop countSize order)
+  behind = slotsBehind v groups (drop countSize list)
 
   abbrev l : List Slot
-  l = slotsAround v groups (drop countSize order)
+  l = slotsAround v groups (drop countSize list)
 
   abbrev p : Pair
   p = record { order = o; groups = map boxesOf l }
-
-  pub order-long : listSize gate ≤ length order
-  order-long = omega (arith, a .place .ownEnd)
 
   pub own-few : own ≤ limits .own
   own-few = a .place .ownLimit
@@ -116,19 +123,22 @@ module _ {sheet order w : List ℕ} {used from count gate own : ℕ} {v : Around
   front-is : take (runSize (v .earlier) groups) (drop from sheet) ≡ groupsBytes (groupsFrom (v .earlier) groups)
   front-is = sym (take-take (runSize (v .earlier) groups) (used - from) (drop from sheet) (omega (arith, front-held .there, groups-long))) ∙ sym (front-held .bytes)
 
-  -- rules up to one place are without fault
-  pub rules-good : (i : ℕ) → i ≤ gate → (recordSize * i ≤ length (drop countSize order)) × (every sound (rulesIn i (drop countSize order)) ≡ true)
+  -- the new A, in the bytes that are written, is without fault, and so are its rules up to one place
+  clean : listRefusal (limits .gate) (rulesOf gate list) ≡ 0
+  clean = rw (← ready .front) (a .gateFaultless)
+
+  pub rules-good : (i : ℕ) → i ≤ gate → (recordSize * i ≤ length (drop countSize list)) × (every sound (rulesIn i (drop countSize list)) ≡ true)
   rules-good i h =
-      let f = faultless (limits .gate) (rulesOf gate order) (a .gateFaultless) in
-      (rw length-drop (omega (arith, order-long)), rules-sound-front i gate (drop countSize order) h (f .sounds))
+      let f = faultless (limits .gate) (rulesOf gate list) clean in
+      (rw length-drop (omega (arith, ready .long)), rules-sound-front i gate (drop countSize list) h (f .sounds))
 
   anew-proper : Each ProperGroup (slotGroups anew)
   anew-proper =
       let q = ready .placed in
-      let f = list-accepted (limits .gate) (rulesOf gate order) (a .gateFaultless) .0 in
-      let s : faults (rulesIn (v .to) (drop countSize order)) ≡ 0 =
-      rw (rules-front (v .to) gate (drop countSize order) (q .inGate)) at (orElse-zero (faults (take (v .to) (o .gate))) (faults (drop (v .to) (o .gate))) (sym (faults-append (take (v .to) (o .gate)) (drop (v .to) (o .gate))) ∙ rw (take-append-drop (v .to) (o .gate)) f) .0) in
-      stretch-proper (v .place) (v .to) (drop countSize order) (q .upTo) s
+      let f = list-accepted (limits .gate) (rulesOf gate list) clean .0 in
+      let s : faults (rulesIn (v .to) (drop countSize list)) ≡ 0 =
+      rw (rules-front (v .to) gate (drop countSize list) (q .inGate)) at (orElse-zero (faults (take (v .to) (rulesOf gate list))) (faults (drop (v .to) (rulesOf gate list))) (sym (faults-append (take (v .to) (rulesOf gate list)) (drop (v .to) (rulesOf gate list))) ∙ rw (take-append-drop (v .to) (rulesOf gate list)) f) .0) in
+      stretch-proper (v .place) (v .to) (drop countSize list) (q .upTo) s
 
   behind-groups : slotGroups behind ≡ slotGroups anew ++ drop (v .later) (groupsFrom (v .groups) groups)
   behind-groups = map-append boxesOf anew _ ∙ ap (λ (x : List (List Region)). slotGroups anew ++ x) (kept-boxes (drop (v .later) (groupsFrom (v .groups) groups)))
@@ -148,10 +158,10 @@ module _ {sheet order w : List ℕ} {used from count gate own : ℕ} {v : Around
       ∙ ap (λ (n : ℕ). n + length behind) (length-map (groupsFrom (v .earlier) groups) kept ∙ groups-count (v .earlier) groups)
 
   short : length l ≤ limits .gate
-  short = omega (arith, ready .counted, denies-most (o .gate), rulesIn-length gate (drop countSize order), a .place .gateLimit)
+  short = omega (arith, ready .counted, denies-most (rulesOf gate list), rulesIn-length gate (drop countSize list), a .place .gateLimit)
 
   -- drafting the groups from the place on, where none is kept behind it
-  pub finish-ready : (rules draft : List ℕ) (front : ℕ) → rules ≡ drop countSize order → front ≡ boxesBefore (v .earlier) groups → draftSize limits ≤ length draft → Ready rules (v .place) (v .to) draft 0 front w
+  pub finish-ready : (rules draft : List ℕ) (front : ℕ) → rules ≡ drop countSize list → front ≡ boxesBefore (v .earlier) groups → draftSize limits ≤ length draft → Ready rules (v .place) (v .to) draft 0 front w
   finish-ready rules draft front e f roomy =
       let q = ready .placed in
       let g = rules-good (v .to) (q .inGate) in
@@ -165,7 +175,7 @@ module _ {sheet order w : List ℕ} {used from count gate own : ℕ} {v : Around
         workRoom = ready .workRoom;
       }
 
-  pub finish-drafted : (q r : Drafted) (rules draft draft′ w′ : List ℕ) (front : ℕ) → q ≡ r → rules ≡ drop countSize order → AllAnew v → draftSize limits ≤ length draft → length draft′ ≡ length draft
+  pub finish-drafted : (q r : Drafted) (rules draft draft′ w′ : List ℕ) (front : ℕ) → q ≡ r → rules ≡ drop countSize list → AllAnew v → draftSize limits ≤ length draft → length draft′ ≡ length draft
       → DraftedGroups rules (v .place) (v .to) draft 0 front w q draft′ w′ → Behind behind front r draft′
   finish-drafted q r rules draft draft′ w′ front i e k roomy j x =
       let m = groups-count (v .groups) groups in
@@ -176,7 +186,7 @@ module _ {sheet order w : List ℕ} {used from count gate own : ℕ} {v : Around
 
   module _ {front : ℕ} (counted : front ≡ boxesBefore (v .earlier) groups) {s : List ℕ} where
     pub finish-six : {w′ : List ℕ} (f : Refusal) → numberOf f ≡ 6 → Behind behind front D.TooManyPieces s → drop (workSize limits) w′ ≡ drop (workSize limits) w
-        → Writes pairBytes (pairSize limits) (slotted o l) sheet w (Refused f) sheet w′
+        → Finishes sheet used middle third list gate own v w (Refused f) sheet w′
     unfolding slotted room work Told
     finish-six {w′} f e x beyond =
         let over : anyOver (limits .pieces) l ≡ true = over-append (limits .pieces) (keptSlots 0 (v .earlier) groups) behind ∙ rw (kept-over (limits .pieces) (groupsFrom (v .earlier) groups)) (x .told) in
@@ -202,7 +212,7 @@ module _ {sheet order w : List ℕ} {used from count gate own : ℕ} {v : Around
       own-are : length (o .own) ≡ own
       own-are = rulesIn-length own (drop countSize (drop (listSize gate) order))
 
-      pub finish-seven : {w′ : List ℕ} → limits .total < b + own → drop (workSize limits) w′ ≡ drop (workSize limits) w → Writes pairBytes (pairSize limits) (slotted o l) sheet w (Refused TooManyBoxes) sheet w′
+      pub finish-seven : {w′ : List ℕ} → limits .total < b + own → drop (workSize limits) w′ ≡ drop (workSize limits) w → Finishes sheet used middle third list gate own v w (Refused TooManyBoxes) sheet w′
       unfolding slotted room work
       finish-seven {w′} h beyond =
           let t : limits .total < length (together (p .groups)) + length (o .own) = omega (arith, boxes-are, own-are) in
@@ -220,7 +230,7 @@ module _ {sheet order w : List ℕ} {used from count gate own : ℕ} {v : Around
         good = record {
           gate = a .gateFaultless;
           own = a .ownFaultless;
-          counted = length-map l boxesOf ∙ ready .counted;
+          counted = length-map l boxesOf ∙ ready .counted ∙ ap denies (sym (ready .front));
           groups = record { boxes = proper-all; within = omega (arith, boxes-are, own-are) };
         }
 
@@ -231,7 +241,7 @@ module _ {sheet order w : List ℕ} {used from count gate own : ℕ} {v : Around
         pub finish-end : end ≤ length s
         finish-end = drafted .0
 
-        module _ (size n : ℕ) (sized : size ≡ runSize (v .earlier) groups) (count-is : n ≡ denies (rulesOf gate order)) where
+        module _ (size n : ℕ) (sized : size ≡ runSize (v .earlier) groups) (count-is : n ≡ denies (rulesOf gate list)) where
           abbrev section : List ℕ
           section = take size (drop from sheet) ++ take end s
 
@@ -239,7 +249,7 @@ module _ {sheet order w : List ℕ} {used from count gate own : ℕ} {v : Around
           content = rw (sized, front-is, drafted .1) (sym (ap groupsBytes all-groups ∙ groupsBytes-append (groupsFrom (v .earlier) groups) (slotGroups behind)))
 
           number : n ≡ length (p .groups)
-          number = count-is ∙ sym (good .counted)
+          number = count-is ∙ ap denies (sym (ready .front)) ∙ sym (good .counted)
 
           sheet-is : sheetOf order n section ≡ pairBytes p
           unfolding pairBytes orderBytes
@@ -248,27 +258,29 @@ module _ {sheet order w : List ℕ} {used from count gate own : ℕ} {v : Around
           pub finish-rest : v .earlier ≤ n
           finish-rest = omega (arith, count-is, ready .counted, all-length)
 
-          pub finish-put : (rest : ℕ) → rest ≡ n - v .earlier → AroundPut sheet from size count order gate n rest (take end s)
+          pub finish-put : (rest : ℕ) → rest ≡ n - v .earlier → AroundPut sheet middle third size count list gate n rest (take end s)
           finish-put rest e =
               let k : rest ≡ length (slotGroups behind) = omega (arith, count-is, ready .counted, all-length, length-map behind boxesOf) in
               let t = pair-short limits p (omega arith) (omega arith) good (omega arith) in
               let fl : length (take size (drop from sheet)) ≡ size = length-take-le size (drop from sheet) (rw length-drop (omega (arith, sized, front-held .there, groups-long, ready .end, ready .start))) in
-              let j : length (sheetOf order n section) ≡ length order + (countSize + (size + length (take end s))) = rw (length-append, length-append, numberBytes-length, length-append, fl) refl in
+              let b : length (partOf middle third sheet) ≡ third - middle = length-take-le (third - middle) (drop middle sheet) (rw length-drop (omega (arith, ready .upTo, ready .start, ready .end))) in
+              let j : length (sheetOf order n section) ≡ length list + (third - middle) + countSize + size + length (take end s) = rw (length-append, length-append, length-append, numberBytes-length, length-append, fl, b) (omega arith) in
               record {
                 more = ready .more;
                 less = ready .less;
                 front = ready .old;
+                upTo = ready .upTo;
                 old = omega (arith, sized, front-held .there, groups-long, ready .end, ready .start);
                 moved = ready .moved;
                 laid = rw (k, drafted .1) (groups-laid (slotGroups behind) behind-proper (omega (arith, behind-few)));
-                few = omega (arith, count-is, denies-most (rulesOf gate order), rulesIn-length gate (drop countSize order), a .place .gateLimit);
+                few = omega (arith, count-is, denies-most (rulesOf gate list), rulesIn-length gate (drop countSize list), a .place .gateLimit);
                 fits = omega (arith, ap length sheet-is);
                 room = ready .sheetRoom;
               }
 
           pub finish-accepted : {w′ : List ℕ} (r : ℕ) (sheet′ : List ℕ) → drop (workSize limits) w′ ≡ drop (workSize limits) w
-              → (r ≡ length (sheetOf order n section)) × (sheet′ ≡ filled (pairSize limits) sheet (sheetOf order n section))
-              → Writes pairBytes (pairSize limits) (slotted o l) sheet w (Length r) sheet′ w′
+              → (r ≡ length (sheetAround sheet middle third size list n (take end s))) × (sheet′ ≡ filled (pairSize limits) sheet (sheetAround sheet middle third size list n (take end s)))
+              → Finishes sheet used middle third list gate own v w (Length r) sheet′ w′
           unfolding slotted lengthOf written
           finish-accepted r sheet′ beyond e = record {
             answer = rw (none, e .0, sheet-is);

@@ -1,7 +1,7 @@
 -- A move is the last step with nothing kept. Assumes nothing.
 use mathlib.Core.Path.{_≡_, refl, ap, _∙_}
 use mathlib.Core.List.{List}
-use Prim.Native.Nat.{ℕ, _+_, _≤_}
+use Prim.Native.Nat.{ℕ, _+_, _-_, _≤_}
 use native.Mathlib.Omega.{arith}
 use lib.ListN.{length, drop}
 use Rattle.lists.specs.Lists.{Each}
@@ -18,15 +18,14 @@ use Rattle.wire.specs.Records.{rulesIn}
 use Rattle.groups.specs.Worked.{workSize}
 use Rattle.sheet.specs.Orders.{orderIn}
 use Rattle.sheet.specs.Pairs.{groupsBytes, pairBytes, pairSize}
-use Rattle.sheet.specs.Readers.{listsOf, groupsFrom, OrderRead}
+use Rattle.sheet.specs.Readers.{rulesOf, listsOf, groupsFrom, OrderRead}
 use Rattle.sheet.specs.declared.OrderParts.the-variants.{Parts}
 use Rattle.sheet.proofs.Accepted.{OrderAccepted}
 use Rattle.draft.specs.Arounds.{slotsAround}
 use Rattle.draft.specs.declared.Around.{Around}
 use Rattle.planner.specs.Calls.{planOf, moveOf}
-use Rattle.planner.specs.Steps.{Writes, Planned, slotted, partOf, Finishing}
+use Rattle.planner.specs.Steps.{Planned, slotted, orderOf, groupsAt, Finishing, Finishes}
 use Rattle.planner.proofs.Finished.{refuses}
-use Rattle.wire.specs.Lists.{listSize}
 
 pub plan-refused : (s out w : List ℕ) (f : Refusal) → orderIn limits s ≡ refused (numberOf f) → Planned s out w (Refused f) out w
 unfolding moveOf
@@ -45,37 +44,42 @@ module _ {s : List ℕ} {n m middle : ℕ} (a : OrderAccepted s n m middle) wher
   all-anew groups = append-none (slotsOf o)
 
   -- nothing stands in the sheet, wherever the groups are to begin
-  pub plan-ready : {sheet w : List ℕ} (to from : ℕ) → to ≡ n → from ≡ length s + countSize → OrderRead s (Parts n m middle) → pairSize limits ≤ length sheet → workSize limits ≤ length w
-      → Finishing sheet from from n s n m (fresh to) w
-  unfolding groupsFrom groupsBytes together Each
-  plan-ready {sheet} to from e f reads h j =
-      let l = a .place .ownEnd in
-      let k = a .place .gateEnd in
-      rw e (record {
-        reads = rw (a .place .gateEnd) at reads;
-        held = record { boxes = tt; bytes = refl; there = omega arith; few = omega arith };
-        placed = record {
-          earlier = omega arith;
-          between = omega arith;
-          before = omega arith;
-          upTo = omega arith;
-          inGate = omega arith;
-          later = omega arith;
-          fits = omega (arith, a .place .gateLimit);
-        };
-        counted = ap length (all-anew (partOf from from sheet)) ∙ slots-length (startOf o) _ (o .gate);
-        start = omega arith;
-        end = omega (arith, a .place .gateLimit, a .place .ownLimit);
-        more = omega arith;
-        less = omega arith;
-        old = omega arith;
-        moved = omega arith;
-        sheetRoom = h;
-        workRoom = j;
-      })
+  module _ (sheet : List ℕ) (end : ℕ) where
+    none : orderOf s end end sheet ≡ s
+    none = let z : end - end ≡ 0 = omega arith in rw z (append-none s)
 
-  pub plan-done : {sheet w sheet′ w′ : List ℕ} {r : Answer} (to from : ℕ) → to ≡ n
-      → Writes pairBytes (pairSize limits) (slotted (listsOf n m (listSize n) s) (slotsAround (fresh to) (partOf from from sheet) (drop countSize s))) sheet w r sheet′ w′
-      → Planned s sheet w r sheet′ w′
-  unfolding moveOf planOf slotted
-  plan-done {sheet} to from e x = rw (a .reads) (rw (e, all-anew (partOf from from sheet), ← a .place .gateEnd) at x)
+    pub plan-ready : {w : List ℕ} (to : ℕ) → to ≡ n → end ≡ length s → OrderRead s (Parts n m middle) → pairSize limits ≤ length sheet → workSize limits ≤ length w
+        → Finishing sheet (end + countSize) end end n s n m (fresh to) w
+    unfolding groupsFrom groupsBytes together Each
+    plan-ready to e f reads h j =
+        let l = a .place .ownEnd in
+        let k = a .place .gateEnd in
+        rw e (record {
+          reads = rw none (rw (a .place .gateEnd) at reads);
+          long = omega arith;
+          front = ap (rulesOf n) none;
+          held = record { boxes = tt; bytes = refl; there = omega arith; few = omega arith };
+          placed = record {
+            earlier = omega arith;
+            between = omega arith;
+            before = omega arith;
+            upTo = omega arith;
+            inGate = omega arith;
+            later = omega arith;
+            fits = omega (arith, a .place .gateLimit);
+          };
+          counted = ap length (all-anew (groupsAt end (end + countSize) sheet)) ∙ slots-length (startOf o) _ (o .gate);
+          upTo = omega arith;
+          start = omega arith;
+          end = omega (arith, a .place .gateLimit, a .place .ownLimit);
+          more = omega arith;
+          less = omega arith;
+          old = omega arith;
+          moved = omega arith;
+          sheetRoom = h;
+          workRoom = j;
+        })
+
+    pub plan-done : {w sheet′ w′ : List ℕ} {r : Answer} (to : ℕ) → to ≡ n → Finishes sheet (end + countSize) end end s n m (fresh to) w r sheet′ w′ → Planned s sheet w r sheet′ w′
+    unfolding moveOf planOf slotted
+    plan-done to e x = rw (a .reads) (rw (e, all-anew (groupsAt end (end + countSize) sheet), none, ← a .place .gateEnd) at x)

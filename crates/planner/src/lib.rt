@@ -14,16 +14,13 @@ use policy::TOTAL_MOST;
 use sheet::OrderParts;
 use sheet::PAIR_BYTES;
 ghost use Prim.Native.Nat.{_≤_};
-ghost use lib.ListN.{length, drop};
-ghost use Rattle.policy.specs.Fields.{countSize, limits};
+ghost use lib.ListN.{length};
+ghost use Rattle.policy.specs.Fields.{limits};
 ghost use Rattle.groups.specs.Worked.{workSize};
-ghost use Rattle.wire.specs.Lists.{listSize};
-ghost use Rattle.sheet.specs.Pairs.{pairBytes, pairSize};
-ghost use Rattle.sheet.specs.Readers.{listsOf};
+ghost use Rattle.sheet.specs.Pairs.{pairSize};
 ghost use Rattle.draft.specs.Drafts.{draftSize};
-ghost use Rattle.draft.specs.Arounds.{slotsAround};
 ghost use Rattle.planner.specs.Calls.{Moves};
-ghost use Rattle.planner.specs.Steps.{Writes, Planned, slotted, partOf, Finishing, AllAnew};
+ghost use Rattle.planner.specs.Steps.{Planned, Finishing, Finishes, AllAnew};
 
 // What an edit does at its place.
 pub enum Change {
@@ -32,26 +29,28 @@ pub enum Change {
     Replace,
 }
 
-// The groups of the new lists from their place on drafted, and the pair sheet written around those before it, which stand in the
-// sheet from `from` on, if there is room for all of them.
+// The groups of the new A from its place on drafted, and the pair sheet written around what stands in the sheet from `middle` on: B
+// up to `third`, and the groups before the place behind it; if there is room for all groups.
 fn finish_with(
     sheet: &mut [u8],
     used: usize,
-    from: usize,
+    middle: usize,
+    third: usize,
     count: usize,
-    order: &[u8],
+    list: &[u8],
     gate: usize,
     own: usize,
     around: Around,
     draft: &mut [u8],
     work: &mut [u8],
 ) -> Answer
-    requires { ⌜ Finishing (now sheet) used from count (now order) gate own around (now work) × AllAnew around × (draftSize limits ≤ length (now draft)) ⌝ }
-    ensures { λ r. ⌜ Writes pairBytes (pairSize limits) (slotted (listsOf gate own (listSize gate) (now (order .entry))) (slotsAround around (partOf from used (now (sheet .entry))) (drop countSize (now (order .entry))))) (now (sheet .entry)) (now (work .entry)) r (now (sheet .exit)) (now (work .exit)) ⌝ }
+    requires { ⌜ Finishing (now sheet) used middle third count (now list) gate own around (now work) × AllAnew around × (draftSize limits ≤ length (now draft)) ⌝ }
+    ensures { λ r. ⌜ Finishes (now (sheet .entry)) used middle third (now (list .entry)) gate own around (now (work .entry)) r (now (sheet .exit)) (now (work .exit)) ⌝ }
 {
+    let from = third + COUNT_BYTES;
     let front = kept::count_boxes(&sheet[from..used], around.earlier);
     match draft_groups(
-        &order[COUNT_BYTES..],
+        &list[COUNT_BYTES..],
         around.place,
         around.to,
         draft,
@@ -65,14 +64,15 @@ fn finish_with(
                 return Answer::Refused(Refusal::TooManyBoxes);
             }
             let size = COUNT_BYTES * around.earlier + BOX_BYTES * front;
-            let groups = sheet::count_denies(order, gate);
+            let groups = sheet::count_denies(list, gate);
             let rest = groups - around.earlier;
             Answer::Length(kept::put_around(
                 sheet,
-                from,
+                middle,
+                third,
                 size,
                 count,
-                order,
+                list,
                 gate,
                 groups,
                 rest,
@@ -87,24 +87,26 @@ fn finish_with(
 pub fn finish(
     sheet: &mut [u8],
     used: usize,
-    from: usize,
+    middle: usize,
+    third: usize,
     count: usize,
-    order: &[u8],
+    list: &[u8],
     gate: usize,
     own: usize,
     around: Around,
     work: &mut [u8],
 ) -> Answer
-    requires { ⌜ Finishing (now sheet) used from count (now order) gate own around (now work) × AllAnew around ⌝ }
-    ensures { λ r. ⌜ Writes pairBytes (pairSize limits) (slotted (listsOf gate own (listSize gate) (now (order .entry))) (slotsAround around (partOf from used (now (sheet .entry))) (drop countSize (now (order .entry))))) (now (sheet .entry)) (now (work .entry)) r (now (sheet .exit)) (now (work .exit)) ⌝ }
+    requires { ⌜ Finishing (now sheet) used middle third count (now list) gate own around (now work) × AllAnew around ⌝ }
+    ensures { λ r. ⌜ Finishes (now (sheet .entry)) used middle third (now (list .entry)) gate own around (now (work .entry)) r (now (sheet .exit)) (now (work .exit)) ⌝ }
 {
     let mut draft = [0u8; DRAFT_BYTES];
     finish_with(
         sheet,
         used,
-        from,
+        middle,
+        third,
         count,
-        order,
+        list,
         gate,
         own,
         around,
@@ -113,7 +115,8 @@ pub fn finish(
     )
 }
 
-// The order sheet read, and every group worked out anew.
+// The order sheet read, and every group worked out anew. The whole of it is written, so that nothing stands in the sheet before the
+// groups' count.
 fn plan(order: &[u8], sheet: &mut [u8], work: &mut [u8]) -> Answer
     requires { ⌜ (pairSize limits ≤ length (now sheet)) × (workSize limits ≤ length (now work)) ⌝ }
     ensures { λ r. ⌜ Planned (now (order .entry)) (now (sheet .entry)) (now (work .entry)) r (now (sheet .exit)) (now (work .exit)) ⌝ }
@@ -132,8 +135,19 @@ fn plan(order: &[u8], sheet: &mut [u8], work: &mut [u8]) -> Answer
                 place: 0,
                 to: gate,
             };
-            let from = order.len() + COUNT_BYTES;
-            finish(sheet, from, from, gate, order, gate, own, around, work)
+            let end = order.len();
+            finish(
+                sheet,
+                end + COUNT_BYTES,
+                end,
+                end,
+                gate,
+                order,
+                gate,
+                own,
+                around,
+                work,
+            )
         }
     }
 }

@@ -1,15 +1,14 @@
 -- What the last step of an edit that touches no allow knows: the gap in section C, and what is joined around it. Assumes nothing.
 use mathlib.Core.Path.{_≡_, ap, sym, _∙_}
 use mathlib.Core.List.{List, _++_}
-use mathlib.Core.Bool.{true, false}
-use Prim.Native.Nat.{ℕ, _+_, _*_, _-_, _≤_, _<_}
+use Prim.Native.Nat.{ℕ, _+_, _-_, _≤_}
 use native.Mathlib.Omega.{arith}
 use lib.ListN.{length, take, drop, length-append, length-drop}
 use lib.Seq.{drop-drop, length-take-le}
 use Rattle.lists.specs.Lists.{Each}
-use Rattle.policy.specs.Fields.{countSize, recordSize, limits}
+use Rattle.policy.specs.Fields.{countSize, limits}
 use Rattle.policy.specs.Ranges.{Region}
-use Rattle.policy.specs.Move.{Slot, boxesOf, together, anyOver}
+use Rattle.policy.specs.Move.{Slot, boxesOf, together}
 use Rattle.policy.proofs.Edits.{kept-boxes, kept-over, over-append, together-append}
 use Rattle.lists.proofs.Lists.{map-append}
 use Rattle.wire.specs.Numbers.{Byte}
@@ -17,21 +16,25 @@ use Rattle.sheet.specs.Pairs.{groupsBytes}
 use Rattle.sheet.specs.Readers.{groupsFrom}
 use Rattle.draft.specs.Drafts.{stretch, slotGroups}
 use Rattle.draft.specs.Arounds.{boxesBefore, runSize, GroupsHeld, keptSlots, slotsBehind, Told, Behind}
+use Rattle.draft.specs.Sheets.{partOf}
 use Rattle.draft.specs.declared.Drafted.{Drafted}
 use Rattle.draft.specs.declared.Drafted.the-variants.{Groups, TooManyPieces}
 use Rattle.draft.specs.declared.Around.{Around}
 use Rattle.draft.specs.declared.kept.Gap.{Gap}
 use Rattle.draft.proofs.Drafts.{groupsBytes-append}
 use Rattle.draft.proofs.Runs.{boxes-split, held-front, held-behind}
-use Rattle.planner.specs.Steps.{partOf, Finishing}
+use Rattle.planner.specs.Steps.{orderOf, groupsAt, Finishing}
 use Rattle.planner.proofs.Finished.{part-is, rules-good}
 use Rattle.regrouping.specs.Regroups.{Gathering, Joined, Gathered, Regrouping}
 
-module _ {sheet order w : List ℕ} {used from count gate own boxes : ℕ} {v : Around} (ready : Regrouping sheet used from count order gate own v boxes w) where
-  abbrev groups : List ℕ
-  groups = partOf from used sheet
+module _ {sheet list w : List ℕ} {used middle third count gate own boxes : ℕ} {v : Around} (ready : Regrouping sheet used middle third count list gate own v boxes w) where
+  abbrev from : ℕ
+  from = third + countSize
 
-  abbrev finishing : Finishing sheet used from count order gate own v w
+  abbrev groups : List ℕ
+  groups = groupsAt third used sheet
+
+  abbrev finishing : Finishing sheet used middle third count list gate own v w
   finishing = ready .finishing
 
   pub groups-long : length groups ≡ used - from
@@ -72,7 +75,7 @@ module _ {sheet order w : List ℕ} {used from count gate own boxes : ℕ} {v : 
       pub back-is : drop (gap .next) groups ≡ groupsBytes (drop (v .later) (groupsFrom (v .groups) groups))
       back-is = rw next-is (held-behind (v .later) (v .groups) groups (finishing .placed .later) (finishing .held) (ready .exact))
 
-      module _ (bytes : Each Byte order) (rules back : List ℕ) (rules-are : rules ≡ drop countSize order) (back-are : back ≡ drop (gap .next) groups) where
+      module _ (bytes : Each Byte (orderOf list middle third sheet)) (rules back : List ℕ) (rules-are : rules ≡ drop countSize list) (back-are : back ≡ drop (gap .next) groups) where
         pub gathering : Gathering rules (v .place) (v .to) (boxes - gap .boxes) back w
         gathering =
             let q = finishing .placed in
@@ -90,16 +93,16 @@ module _ {sheet order w : List ℕ} {used from count gate own boxes : ℕ} {v : 
 
         -- what is joined is what stands behind the groups before the place
         abbrev anew : List Slot
-        anew = stretch (v .place) (v .to) (drop countSize order)
+        anew = stretch (v .place) (v .to) (drop countSize list)
 
         abbrev later : List (List Region)
         later = drop (v .later) (groupsFrom (v .groups) groups)
 
-        joined-behind : (r : Drafted) (s : List ℕ) → Joined anew (boxes - gap .boxes) back r s → Behind (slotsBehind v groups (drop countSize order)) (boxesBefore (v .earlier) groups) r s
+        joined-behind : (r : Drafted) (s : List ℕ) → Joined anew (boxes - gap .boxes) back r s → Behind (slotsBehind v groups (drop countSize list)) (boxesBefore (v .earlier) groups) r s
         unfolding Joined Told
         joined-behind TooManyPieces s y = record { told = over-append (limits .pieces) anew (keptSlots (v .later) (v .groups) groups) ∙ rw y }
         joined-behind (Groups b n) s y =
-            let f : slotGroups (slotsBehind v groups (drop countSize order)) ≡ slotGroups anew ++ later = map-append boxesOf anew _ ∙ ap (λ (t : List (List Region)). slotGroups anew ++ t) (kept-boxes later) in
+            let f : slotGroups (slotsBehind v groups (drop countSize list)) ≡ slotGroups anew ++ later = map-append boxesOf anew _ ∙ ap (λ (t : List (List Region)). slotGroups anew ++ t) (kept-boxes later) in
             let l : length (together (slotGroups anew ++ later)) ≡ length (together (slotGroups anew)) + length (together later) = rw (together-append (slotGroups anew) later) (length-append (together (slotGroups anew)) (together later)) in
             let e = y .1 in
             record {
@@ -111,5 +114,5 @@ module _ {sheet order w : List ℕ} {used from count gate own boxes : ℕ} {v : 
             }
 
         pub gap-behind : (q r : Drafted) → q ≡ r → {w′ : List ℕ} → Gathered rules (v .place) (v .to) (boxes - gap .boxes) back w q w′
-            → Behind (slotsBehind v groups (drop countSize order)) (boxesBefore (v .earlier) groups) r w′
+            → Behind (slotsBehind v groups (drop countSize list)) (boxesBefore (v .earlier) groups) r w′
         gap-behind q r e {w′} x = joined-behind r w′ (rw (e, rules-are) at (x .joined))

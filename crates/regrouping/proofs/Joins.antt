@@ -11,15 +11,15 @@ use Rattle.policy.specs.Fields.{boxSize, countSize, recordSize, limits}
 use Rattle.policy.specs.Ranges.{Region}
 use Rattle.policy.specs.Rules.{isAllow}
 use Rattle.policy.specs.Cut.{group}
-use Rattle.policy.specs.Move.{Slot, anew, boxesOf, together, over, overSlot, anyOver}
+use Rattle.policy.specs.Move.{Slot, anew, boxesOf, together, overSlot, anyOver}
 use Rattle.wire.specs.Numbers.{numberBytes}
 use Rattle.wire.specs.Records.{ruleIn, boxesBytes}
 use Rattle.wire.specs.Buffers.{copiedUp}
 use Rattle.wire.proofs.Numbers.{numberBytes-length}
 use Rattle.groups.specs.Worked.{startAt, allowsAt, GroupStands, WorkedOut, workSize}
 use Rattle.groups.specs.declared.Worked.the-variants.{Boxes, TooMany}
-use Rattle.sheet.specs.Pairs.{groupSize, groupBytes, groupsBytes}
-use Rattle.draft.specs.Drafts.{stretch, slotGroups}
+use Rattle.sheet.specs.Pairs.{groupBytes, groupsBytes}
+use Rattle.draft.specs.Drafts.{stretch}
 use Rattle.draft.specs.declared.Drafted.the-variants.{Groups, TooManyPieces}
 use Rattle.draft.proofs.Drafts.{stretch-none, stretch-allow, stretch-deny}
 use Rattle.draft.proofs.Turns.{worked-over, worked-boxes, worked-few}

@@ -11,13 +11,9 @@ use policy::COUNT_BYTES;
 use policy::Refusal;
 use policy::TOTAL_MOST;
 ghost use Prim.Native.Nat.{_+_, _*_, _≤_};
-ghost use lib.ListN.{length, drop};
-ghost use Rattle.policy.specs.Fields.{countSize, recordSize, limits};
-ghost use Rattle.wire.specs.Lists.{listSize};
-ghost use Rattle.sheet.specs.Pairs.{pairBytes, pairSize};
-ghost use Rattle.sheet.specs.Readers.{listsOf};
-ghost use Rattle.draft.specs.Arounds.{slotsAround};
-ghost use Rattle.planner.specs.Steps.{Writes, slotted, partOf};
+ghost use lib.ListN.{length};
+ghost use Rattle.policy.specs.Fields.{recordSize};
+ghost use Rattle.planner.specs.Steps.{Finishes};
 ghost use Rattle.regrouping.specs.Regroups.{NoneDenies, JoinReady, JoinedIn, Gathering, Gathered, Regrouping, Settling};
 
 // Whether no rule from the place up to `to` denies, where there is one at most.
@@ -76,24 +72,26 @@ fn gather(
 fn regroup(
     sheet: &mut [u8],
     used: usize,
-    from: usize,
+    middle: usize,
+    third: usize,
     count: usize,
-    order: &[u8],
+    list: &[u8],
     gate: usize,
     own: usize,
     around: Around,
     boxes: usize,
     work: &mut [u8],
 ) -> Answer
-    requires { ⌜ Regrouping (now sheet) used from count (now order) gate own around boxes (now work) ⌝ }
-    ensures { λ r. ⌜ Writes pairBytes (pairSize limits) (slotted (listsOf gate own (listSize gate) (now (order .entry))) (slotsAround around (partOf from used (now (sheet .entry))) (drop countSize (now (order .entry))))) (now (sheet .entry)) (now (work .entry)) r (now (sheet .exit)) (now (work .exit)) ⌝ }
+    requires { ⌜ Regrouping (now sheet) used middle third count (now list) gate own around boxes (now work) ⌝ }
+    ensures { λ r. ⌜ Finishes (now (sheet .entry)) used middle third (now (list .entry)) gate own around (now (work .entry)) r (now (sheet .exit)) (now (work .exit)) ⌝ }
 {
+    let from = third + COUNT_BYTES;
     let gone = around.later - around.earlier;
     let gap = kept::find_gap(&sheet[from..used], around.earlier, gone);
     let next = from + gap.next;
     let left = boxes - gap.boxes;
     match gather(
-        &order[COUNT_BYTES..],
+        &list[COUNT_BYTES..],
         around.place,
         around.to,
         left,
@@ -105,14 +103,15 @@ fn regroup(
             if TOTAL_MOST < sum + own {
                 return Answer::Refused(Refusal::TooManyBoxes);
             }
-            let groups = sheet::count_denies(order, gate);
+            let groups = sheet::count_denies(list, gate);
             let rest = groups - around.earlier;
             Answer::Length(kept::put_around(
                 sheet,
-                from,
+                middle,
+                third,
                 gap.at,
                 count,
-                order,
+                list,
                 gate,
                 groups,
                 rest,
@@ -126,25 +125,27 @@ fn regroup(
 pub fn settle(
     sheet: &mut [u8],
     used: usize,
-    from: usize,
+    middle: usize,
+    third: usize,
     count: usize,
-    order: &[u8],
+    list: &[u8],
     gate: usize,
     own: usize,
     around: Around,
     boxes: usize,
     work: &mut [u8],
 ) -> Answer
-    requires { ⌜ Settling (now sheet) used from count (now order) gate own around boxes (now work) ⌝ }
-    ensures { λ r. ⌜ Writes pairBytes (pairSize limits) (slotted (listsOf gate own (listSize gate) (now (order .entry))) (slotsAround around (partOf from used (now (sheet .entry))) (drop countSize (now (order .entry))))) (now (sheet .entry)) (now (work .entry)) r (now (sheet .exit)) (now (work .exit)) ⌝ }
+    requires { ⌜ Settling (now sheet) used middle third count (now list) gate own around boxes (now work) ⌝ }
+    ensures { λ r. ⌜ Finishes (now (sheet .entry)) used middle third (now (list .entry)) gate own around (now (work .entry)) r (now (sheet .exit)) (now (work .exit)) ⌝ }
 {
     if around.to <= around.place + 1 {
         return regroup(
             sheet,
             used,
-            from,
+            middle,
+            third,
             count,
-            order,
+            list,
             gate,
             own,
             around,
@@ -152,5 +153,16 @@ pub fn settle(
             work,
         );
     }
-    planner::finish(sheet, used, from, count, order, gate, own, around, work)
+    planner::finish(
+        sheet,
+        used,
+        middle,
+        third,
+        count,
+        list,
+        gate,
+        own,
+        around,
+        work,
+    )
 }

@@ -1,4 +1,6 @@
 pub mod Slots
 pub mod Revised
+pub mod Parts
+pub mod Changed
 pub mod Gate
 pub mod Own

@@ -1,13 +1,12 @@
 -- What an edit of either list comes to, once the pair sheet is read: the two tests, what reading the changed list gives, and
 -- then 6 and 7. Assumes nothing.
-use mathlib.Core.Path.{_≡_, ap, sym, _∙_}
+use mathlib.Core.Path.{_≡_, _∙_}
 use mathlib.Core.List.{List, _++_}
 use mathlib.Core.Bool.{true, cond, not}
 use Prim.Native.Nat.{ℕ, zero, suc, _+_, _-_, _≤_}
 use native.Mathlib.Omega.{arith}
 use lib.Dec.{leb}
-use lib.ListN.{length, take, drop}
-use lib.Seq.{take-add, drop-at, length-take-le}
+use lib.ListN.{length, drop}
 use borrow.Author.Tests.{le-leb}
 use Rattle.lists.proofs.Lists.{three-parts}
 use Rattle.policy.specs.Fields.{countSize, limits}
@@ -25,7 +24,7 @@ use Rattle.sheet.specs.Readers.{rulesOf, listsOf, pairOf}
 use Rattle.sheet.proofs.Outcomes.{faultless}
 use Rattle.sheet.proofs.Orders.{ListFits, faultless-fits}
 use Rattle.sheet.proofs.Accepted.{PairAccepted}
-use Rattle.planner.specs.Steps.{slotted, partOf}
+use Rattle.planner.specs.Steps.{slotted}
 use Rattle.planner.specs.Edits.{Asked, asked, editOf, wholeRecord, changeOf, editedOf}
 use Rattle.planner.specs.declared.Change.{Change}
 use Rattle.changes.specs.Changes.{takenBy, changedBytes, ListChanged}

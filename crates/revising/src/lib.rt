@@ -5,40 +5,38 @@ use changes::places;
 use changes::put_list;
 use planner::Change;
 use policy::Answer;
-use policy::COUNT_BYTES;
 use policy::GATE_MOST;
 use policy::OWN_MOST;
 use policy::RECORD_BYTES;
 use policy::Refusal;
 use policy::TOTAL_MOST;
 use regrouping::settle;
-use sheet::ORDER_BYTES;
+use sheet::GATE_BYTES;
 use sheet::PairParts;
 use sheet::Section;
 ghost use Prim.Native.Nat.{_+_, _≤_};
 ghost use lib.ListN.{length};
 ghost use Rattle.policy.specs.Fields.{recordSize, limits};
-ghost use Rattle.sheet.specs.Orders.{orderSize};
+ghost use Rattle.sheet.specs.Orders.{gateSize};
 ghost use Rattle.sheet.specs.Pairs.{pairSize};
 ghost use Rattle.groups.specs.Worked.{workSize};
 ghost use Rattle.planner.specs.Edits.{asked};
 ghost use Rattle.revising.specs.Edits.{Revised};
 
-// The largest order sheet, and a record more: a new count is tested once it is written.
-const EDIT_BYTES: usize = ORDER_BYTES + RECORD_BYTES;
+// The largest A, and a record more: a new count is tested once it is written.
+const LIST_BYTES: usize = GATE_BYTES + RECORD_BYTES;
 
-// An edit of A: the new lists as an order sheet, the new A read there, and the new pair sheet written if there is room for the
-// groups.
+// An edit of A: the new A made and read, and the new pair sheet written if there is room for the groups.
 fn revise_gate_with(
     sheet: &mut [u8],
     used: usize,
     place: usize,
     change: Change,
     new: &[u8],
-    order: &mut [u8],
+    list: &mut [u8],
     work: &mut [u8],
 ) -> Answer
-    requires { ⌜ (pairSize limits ≤ length (now sheet)) × (used ≤ length (now sheet)) × (orderSize limits + recordSize ≤ length (now order)) × (workSize limits ≤ length (now work)) ⌝ }
+    requires { ⌜ (pairSize limits ≤ length (now sheet)) × (used ≤ length (now sheet)) × (gateSize limits + recordSize ≤ length (now list)) × (workSize limits ≤ length (now work)) ⌝ }
     ensures { λ r. ⌜ Revised (now (sheet .entry)) used (asked 0 place change (now (new .entry))) (now (work .entry)) r (now (sheet .exit)) (now (work .exit)) ⌝ }
 {
     match sheet::read_pair(&sheet[..used]) {
@@ -46,32 +44,25 @@ fn revise_gate_with(
         PairParts::Parts {
             gate,
             own,
-            middle: _,
+            middle,
             third,
             boxes,
-        } => match change_list(&sheet[..third], gate, place, change, new, order) {
+        } => match change_list(&sheet[..middle], gate, place, change, new, list) {
             Answer::Refused(f) => Answer::Refused(f),
-            Answer::Length(end) => match sheet::read_section(&order[..end], GATE_MOST) {
+            Answer::Length(end) => match sheet::read_list(&list[..end], GATE_MOST) {
                 Section::Fault(f) => Answer::Refused(f),
                 Section::Rules {
                     count: renewed,
                     next: _,
                 } => {
-                    let around = places(
-                        &sheet[..used],
-                        gate,
-                        place,
-                        change,
-                        &order[..end],
-                        renewed,
-                    );
-                    let from = third + COUNT_BYTES;
+                    let around = places(&sheet[..used], gate, place, change, &list[..end], renewed);
                     settle(
                         sheet,
                         used,
-                        from,
+                        middle,
+                        third,
                         gate,
-                        &order[..end],
+                        &list[..end],
                         renewed,
                         own,
                         around,
@@ -95,8 +86,8 @@ pub fn revise_gate(
     requires { ⌜ (pairSize limits ≤ length (now sheet)) × (used ≤ length (now sheet)) × (workSize limits ≤ length (now work)) ⌝ }
     ensures { λ r. ⌜ Revised (now (sheet .entry)) used (asked 0 place change (now (new .entry))) (now (work .entry)) r (now (sheet .exit)) (now (work .exit)) ⌝ }
 {
-    let mut order = [0u8; EDIT_BYTES];
-    revise_gate_with(sheet, used, place, change, new, &mut order, work)
+    let mut list = [0u8; LIST_BYTES];
+    revise_gate_with(sheet, used, place, change, new, &mut list, work)
 }
 
 // An edit of B: the new B made in the work buffer and read there, and put in the place of the old one. Every group is kept, so

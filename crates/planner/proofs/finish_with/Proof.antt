@@ -10,35 +10,34 @@ use Rattle.lists.proofs.Parts.{tail-whole}
 use Rattle.policy.specs.Fields.{boxSize, countSize, limits}
 use Rattle.wire.specs.Numbers.{Byte}
 use Rattle.wire.proofs.Numbers.{bytes-all}
-use Rattle.groups.specs.Worked.{workSize}
 use Rattle.draft.specs.Drafts.{draftSize, DraftedGroups}
 use Rattle.draft.specs.Arounds.{boxesBefore, runSize, slotsBehind, Behind}
 use Rattle.draft.specs.declared.Drafted.{Drafted}
 use Rattle.draft.specs.declared.Drafted.the-variants.{Groups}
-use Rattle.planner.specs.Steps.{partOf, Finishing, AllAnew}
-use Rattle.planner.proofs.Finished.{order-long, own-few, to-few, front-held, finish-ready, finish-drafted, finish-six, finish-seven, finish-end, finish-rest, finish-put, finish-accepted}
+use Rattle.planner.specs.Steps.{orderOf, groupsAt, Finishing}
+use Rattle.planner.proofs.Finished.{order-bytes, own-few, to-few, front-held, finish-ready, finish-drafted, finish-six, finish-seven, finish-end, finish-rest, finish-put, finish-accepted}
 use Rattle.planner.proofs.finish_with.Statement.{statement}
 use Rattle.planner.proofs.finish_with.Tie as tie
 
 -- what is known from the start
 module _ (c : tie.After-shared-slice-known) where
-  abbrev order : List ℕ
-  order = c .before .before .args .order .now
+  abbrev list : List ℕ
+  list = c .before .before .args .list .now
 
   abbrev groups : List ℕ
-  groups = partOf (c .before .before .args .from) (c .before .before .args .used) (c .before .before .args .sheet .now)
+  groups = groupsAt (c .before .before .args .third) (c .before .before .args .used) (c .before .before .args .sheet .now)
 
-  ready : Finishing (c .before .before .args .sheet .now) (c .before .before .args .used) (c .before .before .args .from) (c .before .before .args .count) order (c .before .before .args .gate) (c .before .before .args .own) (c .before .before .args .around) (c .before .before .args .work .now)
+  ready : Finishing (c .before .before .args .sheet .now) (c .before .before .args .used) (c .before .before .args .middle) (c .before .before .args .third) (c .before .before .args .count) list (c .before .before .args .gate) (c .before .before .args .own) (c .before .before .args .around) (c .before .before .args .work .now)
   ready = c .before .before .pre .0
 
   roomy : draftSize limits ≤ length (c .before .before .args .draft .now)
   roomy = c .before .before .pre .2
 
-  all : Each Byte order
-  all = bytes-all order (λ i. omega (arith, c .shared-slice-known .given i))
+  all : Each Byte (orderOf list (c .before .before .args .middle) (c .before .before .args .third) (c .before .before .args .sheet .now))
+  all = order-bytes list (c .before .before .args .sheet .now) (c .before .before .args .middle) (c .before .before .args .third) (bytes-all list (λ i. omega (arith, c .shared-slice-known .given i))) (bytes-all (c .before .before .args .sheet .now) (λ i. omega (arith, c .before .slice-known .given i)))
 
-  rules : take (length order - countSize) (drop countSize order) ≡ drop countSize order
-  rules = tail-whole order countSize (omega (arith, order-long ready all))
+  rules : take (length list - countSize) (drop countSize list) ≡ drop countSize list
+  rules = tail-whole list countSize (omega (arith, ready .long))
 
 -- what the draft says, once it is made
 module _ (c : tie.After-draft-groups) where
@@ -51,14 +50,17 @@ module _ (c : tie.After-draft-groups) where
   abbrev left : List ℕ
   left = c .draft-groups .last .1 .1 .1 .1 .1 .1 .0
 
-  drafted : DraftedGroups (take (length (order k) - countSize) (drop countSize (order k))) (k .before .before .args .around .place) (k .before .before .args .around .to) (k .before .before .args .draft .now) 0 (c .before .before .before .before .count-boxes .result) (k .before .before .args .work .now) (c .draft-groups .result) made left
+  drafted : DraftedGroups (take (length (list k) - countSize) (drop countSize (list k))) (k .before .before .args .around .place) (k .before .before .args .around .to) (k .before .before .args .draft .now) 0 (c .before .before .before .before .count-boxes .result) (k .before .before .args .work .now) (c .draft-groups .result) made left
   drafted = c .draft-groups .ensures
 
-  behind : (r : Drafted) → c .draft-groups .result ≡ r → Behind (slotsBehind (k .before .before .args .around) (groups k) (drop countSize (order k))) (c .before .before .before .before .count-boxes .result) r made
+  behind : (r : Drafted) → c .draft-groups .result ≡ r → Behind (slotsBehind (k .before .before .args .around) (groups k) (drop countSize (list k))) (c .before .before .before .before .count-boxes .result) r made
   behind r e = finish-drafted (ready k) (all k) _ r _ _ _ _ _ e (rules k) (k .before .before .pre .1) (roomy k) (search needs) drafted
 
   front : c .before .before .before .before .count-boxes .result ≡ boxesBefore (k .before .before .args .around .earlier) (groups k)
   front = c .before .before .before .before .count-boxes .ensures
+
+add-from : tie.Need-add-from
+add-from c = omega (arith, ready (c .before .before) .start, ready (c .before .before) .end)
 
 sub-count-boxes : tie.Need-sub-count-boxes
 sub-count-boxes c = omega (arith, ready (c .before .before) .start)
@@ -73,10 +75,10 @@ count-boxes-requires : tie.Need-count-boxes-requires
 count-boxes-requires c κs = front-held (ready (c .before .before .before .before)) (all (c .before .before .before .before)) .there
 
 sub-draft-groups : tie.Need-sub-draft-groups
-sub-draft-groups c = omega (arith, order-long (ready (c .before .before .before .before .before)) (all (c .before .before .before .before .before)))
+sub-draft-groups c = omega (arith, ready (c .before .before .before .before .before) .long)
 
 part-draft-groups-start : tie.Need-part-draft-groups-start
-part-draft-groups-start c = omega (arith, order-long (ready (c .before .before .before .before .before)) (all (c .before .before .before .before .before)))
+part-draft-groups-start c = omega (arith, ready (c .before .before .before .before .before) .long)
 
 part-draft-groups-end : tie.Need-part-draft-groups-end
 part-draft-groups-end c = search needs
@@ -120,14 +122,14 @@ add-size : tie.Need-add-size
 add-size c = let d = c .before .before .before .before .before .before .before .before .before in omega (arith, front d, front-held (ready (k d)) (all (k d)) .few, front-held (ready (k d)) (all (k d)) .there)
 
 count-denies-requires : tie.Need-count-denies-requires
-count-denies-requires c κs = let d = c .before .before .before .before .before .before .before .before .before in order-long (ready (k d)) (all (k d))
+count-denies-requires c κs = let d = c .before .before .before .before .before .before .before .before .before in ready (k d) .long
 
 -- once the groups are counted
 module _ (c : tie.After-count-denies) where
   abbrev d : tie.After-draft-groups
   d = c .before .before .before .before .before .before .before .before .before .before
 
-  told : Behind (slotsBehind (k d .before .before .args .around) (groups (k d)) (drop countSize (order (k d)))) (d .before .before .before .before .count-boxes .result) (Groups (c .before .before .before .before .boxes .given .0 .0) (c .before .before .before .before .boxes .given .0 .1 .0)) (made d)
+  told : Behind (slotsBehind (k d .before .before .args .around) (groups (k d)) (drop countSize (list (k d)))) (d .before .before .before .before .count-boxes .result) (Groups (c .before .before .before .before .boxes .given .0 .0) (c .before .before .before .before .boxes .given .0 .1 .0)) (made d)
   told = behind d _ (c .before .before .before .before .boxes .given .1)
 
   size : countSize * k d .before .before .args .around .earlier + boxSize * d .before .before .before .before .count-boxes .result ≡ runSize (k d .before .before .args .around .earlier) (groups (k d))
@@ -186,6 +188,7 @@ pub finish-with-spec : {M : Type 1} → statement M
 finish-with-spec =
     tie.close
     (tie.spec
+    add-from
     sub-count-boxes
     part-count-boxes-start
     part-count-boxes-end

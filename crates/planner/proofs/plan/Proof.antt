@@ -2,9 +2,7 @@
 use borrow.Author.Needs.{needs}
 use native.Mathlib.Omega.{arith}
 use mathlib.Core.Path.{refl}
-use Prim.Native.Nat.{_+_}
 use lib.ListN.{length}
-use Rattle.policy.specs.Fields.{countSize}
 use Rattle.wire.proofs.Numbers.{bytes-all}
 use Rattle.sheet.proofs.Accepted.{OrderAccepted, order-accepted, order-refused}
 use Rattle.planner.proofs.Planning.{plan-refused, plan-ready, plan-done}
@@ -25,13 +23,13 @@ enum-known-f c = search needs
 enum-known-gate : tie.Need-enum-known-gate
 enum-known-gate c = search needs
 
-add-from : tie.Need-add-from
-add-from c = search needs
+add-finish : tie.Need-add-finish
+add-finish c = search needs
 
 finish-requires : tie.Need-finish-requires
 finish-requires c κs =
     let g = c .before .before .before in
-    (plan-ready (read g) _ _ (omega arith) refl (rw (g .gate .given .1) at (g .before .before .read-order .ensures)) (g .before .before .before .before .before .before .pre .0) (g .before .before .before .before .before .before .pre .1), refl)
+    (plan-ready (read g) _ _ _ (omega arith) refl (rw (g .gate .given .1) at (g .before .before .read-order .ensures)) (g .before .before .before .before .before .before .pre .0) (g .before .before .before .before .before .before .pre .1), refl)
 
 returns : tie.Need-returns
 returns c = plan-refused _ _ _ _ (order-refused (c .before .before .before .read-order .ensures) _ (c .before .f .given .1))
@@ -43,7 +41,7 @@ same-length-2 : tie.Need-same-length-2
 same-length-2 c = search needs
 
 returns-2 : tie.Need-returns-2
-returns-2 c = plan-done (read (c .before .before .before .before .before .before .before .before)) _ (length (c .before .before .before .before .before .before .before .before .before .before .before .before .before .before .args .order .now) + countSize) (omega arith) (c .before .before .before .before .finish .ensures)
+returns-2 c = plan-done (read (c .before .before .before .before .before .before .before .before)) _ (length (c .before .before .before .before .before .before .before .before .before .before .before .before .before .before .args .order .now)) _ (omega arith) (c .before .before .before .before .finish .ensures)
 
 pub plan-spec : {M : Type 1} → statement M
 plan-spec =
@@ -52,7 +50,7 @@ plan-spec =
     read-order-requires
     enum-known-f
     enum-known-gate
-    add-from
+    add-finish
     finish-requires
     returns
     same-length

@@ -1,5 +1,4 @@
 -- `none_denies` meets its contract. Assumes nothing.
-use borrow.Author.Needs.{needs}
 use native.Mathlib.Omega.{arith}
 use Rattle.regrouping.proofs.Joins.{no-rule, one-rule}
 use Rattle.regrouping.proofs.none_denies.Statement.{statement}

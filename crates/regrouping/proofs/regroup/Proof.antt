@@ -7,36 +7,40 @@ use Prim.Native.Nat.{ℕ, _+_, _-_, _≤_}
 use lib.ListN.{length, take, drop, length-take}
 use Rattle.lists.specs.Lists.{Each}
 use Rattle.lists.proofs.Parts.{tail-whole}
-use Rattle.policy.specs.Fields.{countSize, limits}
+use Rattle.policy.specs.Fields.{countSize}
 use Rattle.wire.specs.Numbers.{Byte}
 use Rattle.wire.proofs.Numbers.{bytes-all}
 use Rattle.draft.specs.Arounds.{boxesBefore, runSize, slotsBehind, Behind}
 use Rattle.draft.specs.declared.Drafted.{Drafted}
 use Rattle.draft.specs.declared.Drafted.the-variants.{Groups}
 use Rattle.draft.specs.declared.kept.Gap.{Gap}
-use Rattle.planner.specs.Steps.{partOf}
-use Rattle.planner.proofs.Finished.{order-long, own-few, finish-six, finish-seven, finish-end, finish-rest, finish-put, finish-accepted}
-use Rattle.regrouping.specs.Regroups.{Gathering, Gathered, Regrouping}
+use Rattle.draft.specs.Sheets.{partOf}
+use Rattle.planner.specs.Steps.{orderOf, groupsAt}
+use Rattle.planner.proofs.Finished.{order-bytes, own-few, finish-six, finish-seven, finish-end, finish-rest, finish-put, finish-accepted}
+use Rattle.regrouping.specs.Regroups.{Regrouping}
 use Rattle.regrouping.proofs.Gaps.{groups-long, part-behind, gap-there, gap-boxes, gap-inside, gathering, gap-behind}
 use Rattle.regrouping.proofs.regroup.Statement.{statement}
 use Rattle.regrouping.proofs.regroup.Tie as tie
 
 -- what is known from the start
 module _ (c : tie.After-shared-slice-known) where
-  abbrev order : List ℕ
-  order = c .before .before .args .order .now
+  abbrev list : List ℕ
+  list = c .before .before .args .list .now
 
   abbrev groups : List ℕ
-  groups = partOf (c .before .before .args .from) (c .before .before .args .used) (c .before .before .args .sheet .now)
+  groups = groupsAt (c .before .before .args .third) (c .before .before .args .used) (c .before .before .args .sheet .now)
 
-  ready : Regrouping (c .before .before .args .sheet .now) (c .before .before .args .used) (c .before .before .args .from) (c .before .before .args .count) order (c .before .before .args .gate) (c .before .before .args .own) (c .before .before .args .around) (c .before .before .args .boxes) (c .before .before .args .work .now)
+  abbrev from : ℕ
+  from = c .before .before .args .third + countSize
+
+  ready : Regrouping (c .before .before .args .sheet .now) (c .before .before .args .used) (c .before .before .args .middle) (c .before .before .args .third) (c .before .before .args .count) list (c .before .before .args .gate) (c .before .before .args .own) (c .before .before .args .around) (c .before .before .args .boxes) (c .before .before .args .work .now)
   ready = c .before .before .pre
 
-  all : Each Byte order
-  all = bytes-all order (λ i. omega (arith, c .shared-slice-known .given i))
+  all : Each Byte (orderOf list (c .before .before .args .middle) (c .before .before .args .third) (c .before .before .args .sheet .now))
+  all = order-bytes list (c .before .before .args .sheet .now) (c .before .before .args .middle) (c .before .before .args .third) (bytes-all list (λ i. omega (arith, c .shared-slice-known .given i))) (bytes-all (c .before .before .args .sheet .now) (λ i. omega (arith, c .before .slice-known .given i)))
 
-  rules : take (length order - countSize) (drop countSize order) ≡ drop countSize order
-  rules = tail-whole order countSize (omega (arith, order-long (ready .finishing) all))
+  rules : take (length list - countSize) (drop countSize list) ≡ drop countSize list
+  rules = tail-whole list countSize (omega (arith, ready .finishing .long))
 
 -- the gap, once it is found
 module _ (c : tie.After-find-gap) where
@@ -52,10 +56,10 @@ module _ (c : tie.After-find-gap) where
   found : (gap .at ≡ runSize (k .before .before .args .around .earlier) (groups k)) × (gap .next ≡ runSize (k .before .before .args .around .earlier + gone) (groups k)) × (gap .boxes + boxesBefore (k .before .before .args .around .earlier) (groups k) ≡ boxesBefore (k .before .before .args .around .earlier + gone) (groups k))
   found = c .find-gap .ensures
 
-  inside : k .before .before .args .from + gap .next ≤ k .before .before .args .used
+  inside : from k + gap .next ≤ k .before .before .args .used
   inside = omega (arith, gap-inside (ready k) gone refl gap found, groups-long (ready k), ready k .finishing .start)
 
-  back : partOf (k .before .before .args .from + gap .next) (k .before .before .args .used) (k .before .before .args .sheet .now) ≡ drop (gap .next) (groups k)
+  back : partOf (from k + gap .next) (k .before .before .args .used) (k .before .before .args .sheet .now) ≡ drop (gap .next) (groups k)
   back = part-behind (ready k) (gap .next) inside
 
 -- what is joined, once it is
@@ -66,8 +70,11 @@ module _ (c : tie.After-gather) where
   abbrev made : List ℕ
   made = c .gather .last .1 .1 .1 .1 .1 .0
 
-  behind : (r : Drafted) → c .gather .result ≡ r → Behind (slotsBehind (k g .before .before .args .around) (groups (k g)) (drop countSize (order (k g)))) (boxesBefore (k g .before .before .args .around .earlier) (groups (k g))) r made
+  behind : (r : Drafted) → c .gather .result ≡ r → Behind (slotsBehind (k g .before .before .args .around) (groups (k g)) (drop countSize (list (k g)))) (boxesBefore (k g .before .before .args .around .earlier) (groups (k g))) r made
   behind r e = gap-behind (ready (k g)) (gone g) refl (gap g) (found g) (all (k g)) _ _ (rules (k g)) (back g) _ r e (c .gather .ensures)
+
+add-from : tie.Need-add-from
+add-from c = omega (arith, ready (c .before) .finishing .start, ready (c .before) .finishing .end)
 
 sub-gone : tie.Need-sub-gone
 sub-gone c = omega (arith, ready (c .before .before) .finishing .placed .between)
@@ -91,10 +98,10 @@ sub-left : tie.Need-sub-left
 sub-left c = let g = c .before .before in gap-boxes (ready (k g)) (gone g) refl (gap g) (found g)
 
 sub-gather : tie.Need-sub-gather
-sub-gather c = let g = c .before .before in omega (arith, order-long (ready (k g) .finishing) (all (k g)))
+sub-gather c = let g = c .before .before in omega (arith, ready (k g) .finishing .long)
 
 part-gather-start : tie.Need-part-gather-start
-part-gather-start c = let g = c .before .before in omega (arith, order-long (ready (k g) .finishing) (all (k g)))
+part-gather-start c = let g = c .before .before in omega (arith, ready (k g) .finishing .long)
 
 part-gather-end : tie.Need-part-gather-end
 part-gather-end c = search needs
@@ -135,14 +142,14 @@ returns c =
     finish-seven (ready (k (g d)) .finishing) (all (k (g d))) refl (behind d _ (c .before .before .sum .given .1)) (c .if1 .taken) (d .gather .ensures .beyond)
 
 count-denies-requires : tie.Need-count-denies-requires
-count-denies-requires c κs = let g = c .before .before .before .before .before .before .before .before .before .before .before .before .before in order-long (ready (k g) .finishing) (all (k g))
+count-denies-requires c κs = let g = c .before .before .before .before .before .before .before .before .before .before .before .before .before in ready (k g) .finishing .long
 
 -- once the groups are counted
 module _ (c : tie.After-count-denies) where
   abbrev d : tie.After-gather
   d = c .before .before .before .before .before .before .before
 
-  told : Behind (slotsBehind (k (g d) .before .before .args .around) (groups (k (g d))) (drop countSize (order (k (g d))))) (boxesBefore (k (g d) .before .before .args .around .earlier) (groups (k (g d)))) (Groups (c .before .before .before .sum .given .0 .0) (c .before .before .before .sum .given .0 .1 .0)) (made d)
+  told : Behind (slotsBehind (k (g d) .before .before .args .around) (groups (k (g d))) (drop countSize (list (k (g d))))) (boxesBefore (k (g d) .before .before .args .around .earlier) (groups (k (g d)))) (Groups (c .before .before .before .sum .given .0 .0) (c .before .before .before .sum .given .0 .1 .0)) (made d)
   told = behind d _ (c .before .before .before .sum .given .1)
 
 sub-rest : tie.Need-sub-rest
@@ -192,6 +199,7 @@ pub regroup-spec : {M : Type 1} → statement M
 regroup-spec =
     tie.close
     (tie.spec
+    add-from
     sub-gone
     sub-find-gap
     part-find-gap-start

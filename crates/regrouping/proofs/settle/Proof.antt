@@ -1,6 +1,5 @@
 -- `settle` meets its contract. Assumes nothing.
 use borrow.Author.Needs.{needs}
-use native.Mathlib.Omega.{arith}
 use Rattle.regrouping.proofs.settle.Statement.{statement}
 use Rattle.regrouping.proofs.settle.Tie as tie
 

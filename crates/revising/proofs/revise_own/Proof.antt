@@ -18,7 +18,8 @@ use Rattle.sheet.proofs.Accepted.{PairAccepted, ListAccepted, pair-refused, pai
 use Rattle.planner.proofs.Finished.{refuses}
 use Rattle.changes.specs.Changes.{changedBytes, ListChanged}
 use Rattle.revising.proofs.Revised.{pair-faulty}
-use Rattle.revising.proofs.Own.{own-there, own-bytes, own-size, own-refused, own-end, own-beyond, own-faulty, own-few, own-seven, own-put, own-done}
+use Rattle.revising.proofs.Parts.{own-bytes}
+use Rattle.revising.proofs.Own.{own-there, own-size, own-refused, own-end, own-beyond, own-faulty, own-few, own-seven, own-put, own-done}
 use Rattle.revising.proofs.revise_own.Statement.{statement}
 use Rattle.revising.proofs.revise_own.Tie as tie
 

@@ -6,7 +6,7 @@ use Prim.Native.Nat.{ℕ, _+_, _*_, _≤_}
 use lib.ListN.{length}
 use Rattle.policy.specs.Fields.{boxSize, countSize}
 use Rattle.draft.specs.Arounds.{boxesBefore, runSize}
-use Rattle.draft.proofs.Runs.{boxes-behind, part-inside, part-boxes, part-there}
+use Rattle.draft.proofs.Runs.{part-inside, part-boxes, part-there}
 use Rattle.draft.proofs.kept.find_gap.Statement.{statement}
 use Rattle.draft.proofs.kept.find_gap.Tie as tie
 
