@@ -13,6 +13,7 @@ use Rattle.wire.specs.Buffers.{zeroed, filled, copiedDown, copiedUp}
 use Rattle.wire.proofs.Buffers.{filled-is}
 use Rattle.wire.proofs.Numbers.{numberBytes-length}
 use Rattle.sheet.specs.Pairs.{pairSize}
+use Rattle.draft.specs.declared.kept.Standing.{Standing}
 use Rattle.draft.specs.Sheets.{partOf, sheetAround, movedTo, RoomReady, AroundPut}
 
 module _ {s : List ℕ} {next behind count renewed : ℕ} (h : RoomReady s next behind count renewed) where
@@ -58,7 +59,16 @@ stored c x y z v i e l k =
     let d : drop (i + length v) c ≡ z = sym (drop-drop (length v) i c) ∙ ap (drop (length v)) (ap (drop i) e ∙ drop-at x (y ++ z) i l) ∙ drop-at y z (length v) k in
     sets-parts c i v n ∙ rw (t, d)
 
-module _ {s list behind : List ℕ} {middle third size count renewed groups rest : ℕ} (h : AroundPut s middle third size count list renewed groups rest behind) where
+module _ {s list behind : List ℕ} {t : Standing} {size renewed groups rest : ℕ} (h : AroundPut s t size list renewed groups rest behind) where
+  abbrev middle : ℕ
+  middle = t .middle
+
+  abbrev third : ℕ
+  third = t .third
+
+  abbrev count : ℕ
+  count = t .count
+
   abbrev own : List ℕ
   own = partOf middle third s
 
@@ -89,7 +99,7 @@ module _ {s list behind : List ℕ} {middle third size count renewed groups rest
       ∙ ap (λ (l : List ℕ). own ++ l) (rw (drop-drop (third - middle) middle s, j, take-add countSize size (drop third s), drop-drop countSize third s))
 
   abbrev content : List ℕ
-  content = sheetAround s middle third size list groups behind
+  content = sheetAround s t size list groups behind
 
   content-long : length content ≡ length list + (third - middle) + countSize + size + length behind
   content-long = rw (length-append, length-append, length-append, length-append, own-long, front-long, numberBytes-length) (omega arith)

@@ -8,6 +8,7 @@ use Rattle.policy.specs.Fields.{countSize, recordSize, limits}
 use Rattle.wire.specs.Numbers.{numberBytes}
 use Rattle.sheet.specs.Pairs.{groupSize, pairSize}
 use Rattle.wire.specs.Lists.{countIn}
+use Rattle.draft.specs.declared.kept.Standing.{Standing}
 
 -- So many groups lie one behind another in these bytes, and nothing else does.
 unfoldable pub Laid : ℕ → List ℕ → Type 0
@@ -34,22 +35,28 @@ pub record RoomReady (sheet : List ℕ) (next behind count renewed : ℕ) : Type
 abbrev pub partOf : ℕ → ℕ → List ℕ → List ℕ
 partOf from to s = take (to - from) (drop from s)
 
--- The pair sheet of a new A and what stands in the sheet: behind `middle` what makes it an order sheet, behind `third` and the count
--- there the first groups, of so many bytes; and the groups handed over.
-abbrev pub sheetAround : List ℕ → ℕ → ℕ → ℕ → List ℕ → ℕ → List ℕ → List ℕ
-sheetAround s middle third size list groups behind =
-    sheetOf (list ++ partOf middle third s) groups (take size (drop (third + countSize) s) ++ behind)
+-- The new order sheet: the bytes of the new A, and B as it stands in the sheet.
+abbrev pub orderOf : List ℕ → Standing → List ℕ → List ℕ
+orderOf list t s = list ++ partOf (t .middle) (t .third) s
+
+-- The groups that stand in the sheet, behind their count.
+abbrev pub groupsAt : Standing → List ℕ → List ℕ
+groupsAt t s = partOf (t .third + countSize) (t .used) s
+
+-- The pair sheet of a new A, B, the first groups that stand in the sheet, of so many bytes, and the groups handed over.
+abbrev pub sheetAround : List ℕ → Standing → ℕ → List ℕ → ℕ → List ℕ → List ℕ
+sheetAround s t size list groups behind = sheetOf (orderOf list t s) groups (take size (drop (t .third + countSize) s) ++ behind)
 
 -- What putting it together asks for: what stands in the sheet is one record at most from where it goes, the groups handed over lie
 -- one behind another, and all of it fits.
-pub record AroundPut (sheet : List ℕ) (middle third size count : ℕ) (list : List ℕ) (renewed groups rest : ℕ) (behind : List ℕ) : Type 0 where
-  pub more : renewed ≤ count + 1
-  pub less : count ≤ renewed + 1
-  pub front : recordSize * count ≤ middle
-  pub upTo : middle ≤ third
-  pub old : third + countSize + size ≤ length sheet
-  pub moved : length list ≡ movedTo middle count renewed
+pub record AroundPut (sheet : List ℕ) (t : Standing) (size : ℕ) (list : List ℕ) (gate groups rest : ℕ) (behind : List ℕ) : Type 0 where
+  pub more : gate ≤ t .count + 1
+  pub less : t .count ≤ gate + 1
+  pub front : recordSize * t .count ≤ t .middle
+  pub upTo : t .middle ≤ t .third
+  pub old : t .third + countSize + size ≤ length sheet
+  pub moved : length list ≡ movedTo (t .middle) (t .count) gate
   pub laid : Laid rest behind
   pub few : groups < 65536
-  pub fits : length list + (third - middle) + countSize + size + length behind ≤ pairSize limits
+  pub fits : length list + (t .third - t .middle) + countSize + size + length behind ≤ pairSize limits
   pub room : pairSize limits ≤ length sheet

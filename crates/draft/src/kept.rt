@@ -21,6 +21,15 @@ pub struct Gap {
     pub boxes: usize,
 }
 
+// What stands in a sheet and is kept: B from `middle` up to `third`, and behind it section C up to `used`; the A before it has
+// `count` rules.
+pub struct Standing {
+    pub used: usize,
+    pub middle: usize,
+    pub third: usize,
+    pub count: usize,
+}
+
 // How many boxes the first n groups have.
 pub fn count_boxes(s: &[u8], n: usize) -> usize
     requires { ⌜ runSize n (now s) ≤ length (now s) ⌝ }
@@ -69,26 +78,24 @@ pub fn make_room(sheet: &mut [u8], next: usize, behind: usize, count: usize, ren
     }
 }
 
-// The pair sheet of a new A and what stands in the sheet: the bytes from `middle` up to `third`, with which they are an order sheet,
-// and so many bytes of groups behind the count there; then the groups handed over, and zeros. The A that stands there has `count`
-// rules. The sheet's length.
+// The pair sheet of a new A of `gate` rules, B, the count of groups, so many bytes of the groups that stand in the sheet and those
+// handed over, and zeros behind it; its length.
 pub fn put_around(
     sheet: &mut [u8],
-    middle: usize,
-    third: usize,
+    stands: Standing,
     size: usize,
-    count: usize,
     list: &[u8],
-    renewed: usize,
+    gate: usize,
     groups: usize,
     rest: usize,
     behind: &[u8],
 ) -> usize
-    requires { ⌜ AroundPut (now sheet) middle third size count (now list) renewed groups rest (now behind) ⌝ }
-    ensures { λ r. ⌜ (r ≡ length (sheetAround (now (sheet .entry)) middle third size (now (list .entry)) groups (now (behind .entry)))) × (now (sheet .exit) ≡ filled (pairSize limits) (now (sheet .entry)) (sheetAround (now (sheet .entry)) middle third size (now (list .entry)) groups (now (behind .entry)))) ⌝ }
+    requires { ⌜ AroundPut (now sheet) stands size (now list) gate groups rest (now behind) ⌝ }
+    ensures { λ r. ⌜ (r ≡ length (sheetAround (now (sheet .entry)) stands size (now (list .entry)) groups (now (behind .entry)))) × (now (sheet .exit) ≡ filled (pairSize limits) (now (sheet .entry)) (sheetAround (now (sheet .entry)) stands size (now (list .entry)) groups (now (behind .entry)))) ⌝ }
 {
-    let own = third - middle;
-    make_room(sheet, middle, own + COUNT_BYTES + size, count, renewed);
+    let middle = stands.middle;
+    let own = stands.third - middle;
+    make_room(sheet, middle, own + COUNT_BYTES + size, stands.count, gate);
     let next = wire::put_bytes(sheet, 0, list);
     wire::put_count(sheet, next + own, groups);
     let start = next + own + COUNT_BYTES + size;

@@ -33,14 +33,15 @@ use Rattle.sheet.proofs.Outcomes.{faultless}
 use Rattle.sheet.proofs.Pairs.{ProperGroup, PairGood, denies-most}
 use Rattle.sheet.proofs.Accepted.{OrderAccepted, order-accepted}
 use Rattle.draft.specs.Drafts.{alone, stretch, slotGroups, draftSize, Ready, DraftedGroups}
-use Rattle.draft.specs.Sheets.{partOf, sheetOf, sheetAround, AroundPut}
+use Rattle.draft.specs.Sheets.{partOf, sheetOf, orderOf, groupsAt, sheetAround, AroundPut}
+use Rattle.draft.specs.declared.kept.Standing.{Standing}
 use Rattle.draft.specs.declared.Drafted.{Drafted}
 use Rattle.draft.specs.declared.Drafted.the-variants as D
 use Rattle.draft.proofs.Drawn.{drawn-behind}
 use Rattle.draft.proofs.Drafts.{groupsBytes-append, rules-front, rules-sound-front}
 use Rattle.planner.proofs.Good.{pair-short}
 use Rattle.draft.specs.Arounds.{boxesBefore, runSize, GroupsHeld, keptSlots, slotsBehind, slotsAround, Told, Behind}
-use Rattle.planner.specs.Steps.{Writes, slotted, orderOf, groupsAt, Finishing, Finishes, AllAnew}
+use Rattle.planner.specs.Steps.{Writes, slotted, Finishing, Finishes, AllAnew}
 use Rattle.draft.specs.declared.Around.{Around}
 use Rattle.draft.proofs.Runs.{groups-count, held-front}
 use Rattle.draft.proofs.Laid.{groups-laid}
@@ -61,8 +62,8 @@ part-is from used sheet h k =
     ∙ drop-at (take from sheet) (take (used - from) (drop from sheet)) from (length-take-le from sheet (omega arith)))
 
 -- the bytes of the new order sheet
-pub order-bytes : (list sheet : List ℕ) (middle third : ℕ) → Each Byte list → Each Byte sheet → Each Byte (orderOf list middle third sheet)
-order-bytes list sheet middle third a b = each-append Byte list (partOf middle third sheet) a (bytes-take (third - middle) (drop middle sheet) (bytes-drop middle sheet b))
+pub order-bytes : (list sheet : List ℕ) (t : Standing) → Each Byte list → Each Byte sheet → Each Byte (orderOf list t sheet)
+order-bytes list sheet t a b = each-append Byte list (partOf (t .middle) (t .third) sheet) a (bytes-take (t .third - t .middle) (drop (t .middle) sheet) (bytes-drop (t .middle) sheet b))
 
 -- groups worked out anew from rules without fault are proper
 stretch-proper : (i to : ℕ) (rules : List ℕ) → i ≤ to → faults (rulesIn to rules) ≡ 0 → Each ProperGroup (map boxesOf (stretch i to rules))
@@ -79,9 +80,18 @@ stretch-proper i to rules h f =
     ap (drop (length (map boxesOf before))) m ∙ drop-at (map boxesOf before) _ (length (map boxesOf before)) refl in
     rw (rules-front i to rules h) at (each-imp (Each Proper) ProperGroup _ (λ g q. every-each (proper highest) g q) (rw d at p))
 
-module _ {sheet list w : List ℕ} {used middle third count gate own : ℕ} {v : Around} (ready : Finishing sheet used middle third count list gate own v w) (bytes : Each Byte (orderOf list middle third sheet)) where
+module _ {sheet list w : List ℕ} {t : Standing} {gate own : ℕ} {v : Around} (ready : Finishing sheet t list gate own v w) (bytes : Each Byte (orderOf list t sheet)) where
+  abbrev middle : ℕ
+  middle = t .middle
+
+  abbrev third : ℕ
+  third = t .third
+
+  abbrev used : ℕ
+  used = t .used
+
   abbrev order : List ℕ
-  order = orderOf list middle third sheet
+  order = orderOf list t sheet
 
   abbrev from : ℕ
   from = third + countSize
@@ -93,7 +103,7 @@ module _ {sheet list w : List ℕ} {used middle third count gate own : ℕ} {v :
   o = listsOf gate own (listSize gate) order
 
   abbrev groups : List ℕ
-  groups = groupsAt third used sheet
+  groups = groupsAt t sheet
 
   abbrev anew : List Slot
   anew = stretch (v .place) (v .to) (drop countSize list)
@@ -186,7 +196,7 @@ module _ {sheet list w : List ℕ} {used middle third count gate own : ℕ} {v :
 
   module _ {front : ℕ} (counted : front ≡ boxesBefore (v .earlier) groups) {s : List ℕ} where
     pub finish-six : {w′ : List ℕ} (f : Refusal) → numberOf f ≡ 6 → Behind behind front D.TooManyPieces s → drop (workSize limits) w′ ≡ drop (workSize limits) w
-        → Finishes sheet used middle third list gate own v w (Refused f) sheet w′
+        → Finishes sheet t list gate own v w (Refused f) sheet w′
     unfolding slotted room work Told
     finish-six {w′} f e x beyond =
         let over : anyOver (limits .pieces) l ≡ true = over-append (limits .pieces) (keptSlots 0 (v .earlier) groups) behind ∙ rw (kept-over (limits .pieces) (groupsFrom (v .earlier) groups)) (x .told) in
@@ -212,7 +222,7 @@ module _ {sheet list w : List ℕ} {used middle third count gate own : ℕ} {v :
       own-are : length (o .own) ≡ own
       own-are = rulesIn-length own (drop countSize (drop (listSize gate) order))
 
-      pub finish-seven : {w′ : List ℕ} → limits .total < b + own → drop (workSize limits) w′ ≡ drop (workSize limits) w → Finishes sheet used middle third list gate own v w (Refused TooManyBoxes) sheet w′
+      pub finish-seven : {w′ : List ℕ} → limits .total < b + own → drop (workSize limits) w′ ≡ drop (workSize limits) w → Finishes sheet t list gate own v w (Refused TooManyBoxes) sheet w′
       unfolding slotted room work
       finish-seven {w′} h beyond =
           let t : limits .total < length (together (p .groups)) + length (o .own) = omega (arith, boxes-are, own-are) in
@@ -258,7 +268,7 @@ module _ {sheet list w : List ℕ} {used middle third count gate own : ℕ} {v :
           pub finish-rest : v .earlier ≤ n
           finish-rest = omega (arith, count-is, ready .counted, all-length)
 
-          pub finish-put : (rest : ℕ) → rest ≡ n - v .earlier → AroundPut sheet middle third size count list gate n rest (take end s)
+          pub finish-put : (rest : ℕ) → rest ≡ n - v .earlier → AroundPut sheet t size list gate n rest (take end s)
           finish-put rest e =
               let k : rest ≡ length (slotGroups behind) = omega (arith, count-is, ready .counted, all-length, length-map behind boxesOf) in
               let t = pair-short limits p (omega arith) (omega arith) good (omega arith) in
@@ -279,8 +289,8 @@ module _ {sheet list w : List ℕ} {used middle third count gate own : ℕ} {v :
               }
 
           pub finish-accepted : {w′ : List ℕ} (r : ℕ) (sheet′ : List ℕ) → drop (workSize limits) w′ ≡ drop (workSize limits) w
-              → (r ≡ length (sheetAround sheet middle third size list n (take end s))) × (sheet′ ≡ filled (pairSize limits) sheet (sheetAround sheet middle third size list n (take end s)))
-              → Finishes sheet used middle third list gate own v w (Length r) sheet′ w′
+              → (r ≡ length (sheetAround sheet t size list n (take end s))) × (sheet′ ≡ filled (pairSize limits) sheet (sheetAround sheet t size list n (take end s)))
+              → Finishes sheet t list gate own v w (Length r) sheet′ w′
           unfolding slotted lengthOf written
           finish-accepted r sheet′ beyond e = record {
             answer = rw (none, e .0, sheet-is);

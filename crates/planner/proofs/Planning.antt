@@ -24,7 +24,9 @@ use Rattle.sheet.proofs.Accepted.{OrderAccepted}
 use Rattle.draft.specs.Arounds.{slotsAround}
 use Rattle.draft.specs.declared.Around.{Around}
 use Rattle.planner.specs.Calls.{planOf, moveOf}
-use Rattle.planner.specs.Steps.{Planned, slotted, orderOf, groupsAt, Finishing, Finishes}
+use Rattle.planner.specs.Steps.{Planned, slotted, Finishing, Finishes}
+use Rattle.draft.specs.Sheets.{orderOf, groupsAt}
+use Rattle.draft.specs.declared.kept.Standing.{Standing}
 use Rattle.planner.proofs.Finished.{refuses}
 
 pub plan-refused : (s out w : List ℕ) (f : Refusal) → orderIn limits s ≡ refused (numberOf f) → Planned s out w (Refused f) out w
@@ -45,11 +47,14 @@ module _ {s : List ℕ} {n m middle : ℕ} (a : OrderAccepted s n m middle) wher
 
   -- nothing stands in the sheet, wherever the groups are to begin
   module _ (sheet : List ℕ) (end : ℕ) where
-    none : orderOf s end end sheet ≡ s
+    abbrev t : Standing
+    t = record { used = end + countSize; middle = end; third = end; count = n }
+
+    none : orderOf s t sheet ≡ s
     none = let z : end - end ≡ 0 = omega arith in rw z (append-none s)
 
     pub plan-ready : {w : List ℕ} (to : ℕ) → to ≡ n → end ≡ length s → OrderRead s (Parts n m middle) → pairSize limits ≤ length sheet → workSize limits ≤ length w
-        → Finishing sheet (end + countSize) end end n s n m (fresh to) w
+        → Finishing sheet t s n m (fresh to) w
     unfolding groupsFrom groupsBytes together Each
     plan-ready to e f reads h j =
         let l = a .place .ownEnd in
@@ -68,7 +73,7 @@ module _ {s : List ℕ} {n m middle : ℕ} (a : OrderAccepted s n m middle) wher
             later = omega arith;
             fits = omega (arith, a .place .gateLimit);
           };
-          counted = ap length (all-anew (groupsAt end (end + countSize) sheet)) ∙ slots-length (startOf o) _ (o .gate);
+          counted = ap length (all-anew (groupsAt t sheet)) ∙ slots-length (startOf o) _ (o .gate);
           upTo = omega arith;
           start = omega arith;
           end = omega (arith, a .place .gateLimit, a .place .ownLimit);
@@ -80,6 +85,6 @@ module _ {s : List ℕ} {n m middle : ℕ} (a : OrderAccepted s n m middle) wher
           workRoom = j;
         })
 
-    pub plan-done : {w sheet′ w′ : List ℕ} {r : Answer} (to : ℕ) → to ≡ n → Finishes sheet (end + countSize) end end s n m (fresh to) w r sheet′ w′ → Planned s sheet w r sheet′ w′
+    pub plan-done : {w sheet′ w′ : List ℕ} {r : Answer} (to : ℕ) → to ≡ n → Finishes sheet t s n m (fresh to) w r sheet′ w′ → Planned s sheet w r sheet′ w′
     unfolding moveOf planOf slotted
-    plan-done to e x = rw (a .reads) (rw (e, all-anew (groupsAt end (end + countSize) sheet), none, ← a .place .gateEnd) at x)
+    plan-done to e x = rw (a .reads) (rw (e, all-anew (groupsAt t sheet), none, ← a .place .gateEnd) at x)

@@ -1,6 +1,6 @@
 -- What a call's inner part answers and leaves, once everything lent is long enough. Assumes nothing.
 use mathlib.Core.Path.{_≡_}
-use mathlib.Core.List.{List, _++_, map}
+use mathlib.Core.List.{List, map}
 use Prim.Native.Nat.{ℕ, _+_, _*_, _≤_}
 use lib.ListN.{length, drop}
 use Rattle.policy.specs.Fields.{countSize, recordSize, limits}
@@ -13,8 +13,9 @@ use Rattle.sheet.specs.Pairs.{pairBytes, pairSize}
 use Rattle.sheet.specs.Readers.{rulesOf, listsOf, OrderRead}
 use Rattle.sheet.specs.declared.OrderParts.the-variants.{Parts}
 use Rattle.draft.specs.Arounds.{GroupsHeld, slotsAround, Placed}
-use Rattle.draft.specs.Sheets.{partOf, movedTo}
+use Rattle.draft.specs.Sheets.{movedTo, orderOf, groupsAt}
 use Rattle.draft.specs.declared.Around.{Around}
+use Rattle.draft.specs.declared.kept.Standing.{Standing}
 use Rattle.planner.specs.Calls.{moveOf}
 use Rattle.wire.specs.Lists.{listSize}
 use Rattle.wire.specs.Buffers.{written, lengthOf}
@@ -33,38 +34,30 @@ Planned s out w r out′ w′ = Writes pairBytes (pairSize limits) (moveOf limit
 unfoldable pub slotted : Order → List Slot → Outcome Pair
 slotted o l = unless (room limits o l) (record { order = o; groups = map boxesOf l })
 
--- The new order sheet: the bytes that are written, and those that stand in the sheet from `middle` up to `third`.
-abbrev pub orderOf : List ℕ → ℕ → ℕ → List ℕ → List ℕ
-orderOf list middle third sheet = list ++ partOf middle third sheet
-
--- The groups that stand in the sheet, behind the count at `third`.
-abbrev pub groupsAt : ℕ → ℕ → List ℕ → List ℕ
-groupsAt third used sheet = partOf (third + countSize) used sheet
-
 -- What the last step asks for: the new order sheet reads well, its A is in the bytes that are written, the old groups stand in the
--- sheet, and all that stands there is one record at most from where it goes, since the A before it had `count` rules.
-pub record Finishing (sheet : List ℕ) (used middle third count : ℕ) (list : List ℕ) (gate own : ℕ) (v : Around) (work : List ℕ) : Type 0 where
-  pub reads : OrderRead (orderOf list middle third sheet) (Parts gate own (listSize gate))
+-- sheet, and all that stands there is one record at most from where it goes.
+pub record Finishing (sheet : List ℕ) (t : Standing) (list : List ℕ) (gate own : ℕ) (v : Around) (work : List ℕ) : Type 0 where
+  pub reads : OrderRead (orderOf list t sheet) (Parts gate own (listSize gate))
   pub long : listSize gate ≤ length list
-  pub front : rulesOf gate (orderOf list middle third sheet) ≡ rulesOf gate list
-  pub held : GroupsHeld (groupsAt third used sheet) (v .groups)
+  pub front : rulesOf gate (orderOf list t sheet) ≡ rulesOf gate list
+  pub held : GroupsHeld (groupsAt t sheet) (v .groups)
   pub placed : Placed v gate
-  pub counted : length (slotsAround v (groupsAt third used sheet) (drop countSize list)) ≡ denies (rulesOf gate list)
-  pub upTo : middle ≤ third
-  pub start : third + countSize ≤ used
-  pub end : used ≤ length sheet
-  pub more : gate ≤ count + 1
-  pub less : count ≤ gate + 1
-  pub old : recordSize * count ≤ middle
-  pub moved : length list ≡ movedTo middle count gate
+  pub counted : length (slotsAround v (groupsAt t sheet) (drop countSize list)) ≡ denies (rulesOf gate list)
+  pub upTo : t .middle ≤ t .third
+  pub start : t .third + countSize ≤ t .used
+  pub end : t .used ≤ length sheet
+  pub more : gate ≤ t .count + 1
+  pub less : t .count ≤ gate + 1
+  pub old : recordSize * t .count ≤ t .middle
+  pub moved : length list ≡ movedTo (t .middle) (t .count) gate
   pub sheetRoom : pairSize limits ≤ length sheet
   pub workRoom : workSize limits ≤ length work
 
 -- What it answers and leaves: the pair of the new lists and the groups around the place.
-abbrev pub Finishes : List ℕ → ℕ → ℕ → ℕ → List ℕ → ℕ → ℕ → Around → List ℕ → Answer → List ℕ → List ℕ → Type 0
-Finishes sheet used middle third list gate own v w r sheet′ w′ =
+abbrev pub Finishes : List ℕ → Standing → List ℕ → ℕ → ℕ → Around → List ℕ → Answer → List ℕ → List ℕ → Type 0
+Finishes sheet t list gate own v w r sheet′ w′ =
     Writes pairBytes (pairSize limits)
-    (slotted (listsOf gate own (listSize gate) (orderOf list middle third sheet)) (slotsAround v (groupsAt third used sheet) (drop countSize list)))
+    (slotted (listsOf gate own (listSize gate) (orderOf list t sheet)) (slotsAround v (groupsAt t sheet) (drop countSize list)))
     sheet w r sheet′ w′
 
 -- Where all groups from the place on are worked out anew.

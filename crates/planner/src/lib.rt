@@ -5,6 +5,7 @@ use draft::DRAFT_BYTES;
 use draft::Drafted;
 use draft::draft_groups;
 use draft::kept;
+use draft::kept::Standing;
 use groups::WORK_BYTES;
 use policy::Answer;
 use policy::BOX_BYTES;
@@ -29,14 +30,11 @@ pub enum Change {
     Replace,
 }
 
-// The groups of the new A from its place on drafted, and the pair sheet written around what stands in the sheet from `middle` on: B
-// up to `third`, and the groups before the place behind it; if there is room for all groups.
+// The groups of the new A from its place on drafted, and the pair sheet written around B and the groups before the place, which stand
+// in the sheet, if there is room for all groups.
 fn finish_with(
     sheet: &mut [u8],
-    used: usize,
-    middle: usize,
-    third: usize,
-    count: usize,
+    stands: Standing,
     list: &[u8],
     gate: usize,
     own: usize,
@@ -44,10 +42,11 @@ fn finish_with(
     draft: &mut [u8],
     work: &mut [u8],
 ) -> Answer
-    requires { ⌜ Finishing (now sheet) used middle third count (now list) gate own around (now work) × AllAnew around × (draftSize limits ≤ length (now draft)) ⌝ }
-    ensures { λ r. ⌜ Finishes (now (sheet .entry)) used middle third (now (list .entry)) gate own around (now (work .entry)) r (now (sheet .exit)) (now (work .exit)) ⌝ }
+    requires { ⌜ Finishing (now sheet) stands (now list) gate own around (now work) × AllAnew around × (draftSize limits ≤ length (now draft)) ⌝ }
+    ensures { λ r. ⌜ Finishes (now (sheet .entry)) stands (now (list .entry)) gate own around (now (work .entry)) r (now (sheet .exit)) (now (work .exit)) ⌝ }
 {
-    let from = third + COUNT_BYTES;
+    let from = stands.third + COUNT_BYTES;
+    let used = stands.used;
     let front = kept::count_boxes(&sheet[from..used], around.earlier);
     match draft_groups(
         &list[COUNT_BYTES..],
@@ -68,10 +67,8 @@ fn finish_with(
             let rest = groups - around.earlier;
             Answer::Length(kept::put_around(
                 sheet,
-                middle,
-                third,
+                stands,
                 size,
-                count,
                 list,
                 gate,
                 groups,
@@ -86,37 +83,21 @@ fn finish_with(
 // and to it cannot meet anything lent.
 pub fn finish(
     sheet: &mut [u8],
-    used: usize,
-    middle: usize,
-    third: usize,
-    count: usize,
+    stands: Standing,
     list: &[u8],
     gate: usize,
     own: usize,
     around: Around,
     work: &mut [u8],
 ) -> Answer
-    requires { ⌜ Finishing (now sheet) used middle third count (now list) gate own around (now work) × AllAnew around ⌝ }
-    ensures { λ r. ⌜ Finishes (now (sheet .entry)) used middle third (now (list .entry)) gate own around (now (work .entry)) r (now (sheet .exit)) (now (work .exit)) ⌝ }
+    requires { ⌜ Finishing (now sheet) stands (now list) gate own around (now work) × AllAnew around ⌝ }
+    ensures { λ r. ⌜ Finishes (now (sheet .entry)) stands (now (list .entry)) gate own around (now (work .entry)) r (now (sheet .exit)) (now (work .exit)) ⌝ }
 {
     let mut draft = [0u8; DRAFT_BYTES];
-    finish_with(
-        sheet,
-        used,
-        middle,
-        third,
-        count,
-        list,
-        gate,
-        own,
-        around,
-        &mut draft,
-        work,
-    )
+    finish_with(sheet, stands, list, gate, own, around, &mut draft, work)
 }
 
-// The order sheet read, and every group worked out anew. The whole of it is written, so that nothing stands in the sheet before the
-// groups' count.
+// The order sheet read, and every group worked out anew. B is written with A, so that nothing stands in the sheet.
 fn plan(order: &[u8], sheet: &mut [u8], work: &mut [u8]) -> Answer
     requires { ⌜ (pairSize limits ≤ length (now sheet)) × (workSize limits ≤ length (now work)) ⌝ }
     ensures { λ r. ⌜ Planned (now (order .entry)) (now (sheet .entry)) (now (work .entry)) r (now (sheet .exit)) (now (work .exit)) ⌝ }
@@ -136,18 +117,13 @@ fn plan(order: &[u8], sheet: &mut [u8], work: &mut [u8]) -> Answer
                 to: gate,
             };
             let end = order.len();
-            finish(
-                sheet,
-                end + COUNT_BYTES,
-                end,
-                end,
-                gate,
-                order,
-                gate,
-                own,
-                around,
-                work,
-            )
+            let stands = Standing {
+                used: end + COUNT_BYTES,
+                middle: end,
+                third: end,
+                count: gate,
+            };
+            finish(sheet, stands, order, gate, own, around, work)
         }
     }
 }

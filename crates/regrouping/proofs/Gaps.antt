@@ -16,25 +16,29 @@ use Rattle.sheet.specs.Pairs.{groupsBytes}
 use Rattle.sheet.specs.Readers.{groupsFrom}
 use Rattle.draft.specs.Drafts.{stretch, slotGroups}
 use Rattle.draft.specs.Arounds.{boxesBefore, runSize, GroupsHeld, keptSlots, slotsBehind, Told, Behind}
-use Rattle.draft.specs.Sheets.{partOf}
+use Rattle.draft.specs.Sheets.{partOf, orderOf, groupsAt}
 use Rattle.draft.specs.declared.Drafted.{Drafted}
 use Rattle.draft.specs.declared.Drafted.the-variants.{Groups, TooManyPieces}
 use Rattle.draft.specs.declared.Around.{Around}
 use Rattle.draft.specs.declared.kept.Gap.{Gap}
+use Rattle.draft.specs.declared.kept.Standing.{Standing}
 use Rattle.draft.proofs.Drafts.{groupsBytes-append}
 use Rattle.draft.proofs.Runs.{boxes-split, held-front, held-behind}
-use Rattle.planner.specs.Steps.{orderOf, groupsAt, Finishing}
+use Rattle.planner.specs.Steps.{Finishing}
 use Rattle.planner.proofs.Finished.{part-is, rules-good}
 use Rattle.regrouping.specs.Regroups.{Gathering, Joined, Gathered, Regrouping}
 
-module _ {sheet list w : List ℕ} {used middle third count gate own boxes : ℕ} {v : Around} (ready : Regrouping sheet used middle third count list gate own v boxes w) where
+module _ {sheet list w : List ℕ} {t : Standing} {gate own boxes : ℕ} {v : Around} (ready : Regrouping sheet t list gate own v boxes w) where
   abbrev from : ℕ
-  from = third + countSize
+  from = t .third + countSize
+
+  abbrev used : ℕ
+  used = t .used
 
   abbrev groups : List ℕ
-  groups = groupsAt third used sheet
+  groups = groupsAt t sheet
 
-  abbrev finishing : Finishing sheet used middle third count list gate own v w
+  abbrev finishing : Finishing sheet t list gate own v w
   finishing = ready .finishing
 
   pub groups-long : length groups ≡ used - from
@@ -75,7 +79,7 @@ module _ {sheet list w : List ℕ} {used middle third count gate own boxes : ℕ
       pub back-is : drop (gap .next) groups ≡ groupsBytes (drop (v .later) (groupsFrom (v .groups) groups))
       back-is = rw next-is (held-behind (v .later) (v .groups) groups (finishing .placed .later) (finishing .held) (ready .exact))
 
-      module _ (bytes : Each Byte (orderOf list middle third sheet)) (rules back : List ℕ) (rules-are : rules ≡ drop countSize list) (back-are : back ≡ drop (gap .next) groups) where
+      module _ (bytes : Each Byte (orderOf list t sheet)) (rules back : List ℕ) (rules-are : rules ≡ drop countSize list) (back-are : back ≡ drop (gap .next) groups) where
         pub gathering : Gathering rules (v .place) (v .to) (boxes - gap .boxes) back w
         gathering =
             let q = finishing .placed in
@@ -102,14 +106,14 @@ module _ {sheet list w : List ℕ} {used middle third count gate own boxes : ℕ
         unfolding Joined Told
         joined-behind TooManyPieces s y = record { told = over-append (limits .pieces) anew (keptSlots (v .later) (v .groups) groups) ∙ rw y }
         joined-behind (Groups b n) s y =
-            let f : slotGroups (slotsBehind v groups (drop countSize list)) ≡ slotGroups anew ++ later = map-append boxesOf anew _ ∙ ap (λ (t : List (List Region)). slotGroups anew ++ t) (kept-boxes later) in
+            let f : slotGroups (slotsBehind v groups (drop countSize list)) ≡ slotGroups anew ++ later = map-append boxesOf anew _ ∙ ap (λ (x : List (List Region)). slotGroups anew ++ x) (kept-boxes later) in
             let l : length (together (slotGroups anew ++ later)) ≡ length (together (slotGroups anew)) + length (together later) = rw (together-append (slotGroups anew) later) (length-append (together (slotGroups anew)) (together later)) in
             let e = y .1 in
             record {
               told = (
                 over-append (limits .pieces) anew (keptSlots (v .later) (v .groups) groups) ∙ rw (y .0, kept-over (limits .pieces) later),
                 rw f (omega (arith, lost-is, behind-boxes, ready .all)),
-                λ t. let u = y .2 t in (u .0, u .1 ∙ rw (f, groupsBytes-append (slotGroups anew) later, back-are, back-is)),
+                λ i. let u = y .2 i in (u .0, u .1 ∙ rw (f, groupsBytes-append (slotGroups anew) later, back-are, back-is)),
               );
             }
 

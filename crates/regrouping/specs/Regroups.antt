@@ -14,10 +14,12 @@ use Rattle.groups.specs.Worked.{workSize}
 use Rattle.sheet.specs.Pairs.{groupSize, groupsBytes}
 use Rattle.draft.specs.Drafts.{stretch, slotGroups}
 use Rattle.draft.specs.Arounds.{boxesBefore, runSize}
+use Rattle.draft.specs.Sheets.{groupsAt}
 use Rattle.draft.specs.declared.Drafted.{Drafted}
 use Rattle.draft.specs.declared.Drafted.the-variants.{Groups, TooManyPieces}
 use Rattle.draft.specs.declared.Around.{Around}
-use Rattle.planner.specs.Steps.{groupsAt, Finishing, AllAnew}
+use Rattle.draft.specs.declared.kept.Standing.{Standing}
+use Rattle.planner.specs.Steps.{Finishing, AllAnew}
 
 -- Whether no rule from the place up to `to` denies, where there is one at most: then no group comes of it.
 unfoldable pub NoneDenies : List ℕ → ℕ → ℕ → Bool → Type 0
@@ -69,15 +71,15 @@ pub record Gathered (rules : List ℕ) (place to boxes : ℕ) (back work : List 
 
 -- What the last step asks for: what that of a move asks for; one rule at most to work out; and that section C is the old groups, of
 -- so many boxes, and nothing else.
-pub record Regrouping (sheet : List ℕ) (used middle third count : ℕ) (list : List ℕ) (gate own : ℕ) (v : Around) (boxes : ℕ) (work : List ℕ) : Type 0 where
-  pub finishing : Finishing sheet used middle third count list gate own v work
+pub record Regrouping (sheet : List ℕ) (t : Standing) (list : List ℕ) (gate own : ℕ) (v : Around) (boxes : ℕ) (work : List ℕ) : Type 0 where
+  pub finishing : Finishing sheet t list gate own v work
   pub one : v .to ≤ v .place + 1
-  pub all : boxes ≡ boxesBefore (v .groups) (groupsAt third used sheet)
-  pub exact : length (groupsAt third used sheet) ≡ runSize (v .groups) (groupsAt third used sheet)
+  pub all : boxes ≡ boxesBefore (v .groups) (groupsAt t sheet)
+  pub exact : length (groupsAt t sheet) ≡ runSize (v .groups) (groupsAt t sheet)
 
 -- The same of any edit of A: with more than one rule to work out, no group is kept behind the place.
-pub record Settling (sheet : List ℕ) (used middle third count : ℕ) (list : List ℕ) (gate own : ℕ) (v : Around) (boxes : ℕ) (work : List ℕ) : Type 0 where
-  pub finishing : Finishing sheet used middle third count list gate own v work
+pub record Settling (sheet : List ℕ) (t : Standing) (list : List ℕ) (gate own : ℕ) (v : Around) (boxes : ℕ) (work : List ℕ) : Type 0 where
+  pub finishing : Finishing sheet t list gate own v work
   pub wide : v .place + 1 < v .to → AllAnew v
-  pub all : boxes ≡ boxesBefore (v .groups) (groupsAt third used sheet)
-  pub exact : length (groupsAt third used sheet) ≡ runSize (v .groups) (groupsAt third used sheet)
+  pub all : boxes ≡ boxesBefore (v .groups) (groupsAt t sheet)
+  pub exact : length (groupsAt t sheet) ≡ runSize (v .groups) (groupsAt t sheet)

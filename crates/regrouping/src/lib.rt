@@ -4,6 +4,7 @@ use draft::Around;
 use draft::Drafted;
 use draft::is_allow;
 use draft::kept;
+use draft::kept::Standing;
 use groups::Worked;
 use policy::Answer;
 use policy::BOX_BYTES;
@@ -71,10 +72,7 @@ fn gather(
 // The last step with one rule at most to work out; the old groups have so many boxes.
 fn regroup(
     sheet: &mut [u8],
-    used: usize,
-    middle: usize,
-    third: usize,
-    count: usize,
+    stands: Standing,
     list: &[u8],
     gate: usize,
     own: usize,
@@ -82,10 +80,11 @@ fn regroup(
     boxes: usize,
     work: &mut [u8],
 ) -> Answer
-    requires { ⌜ Regrouping (now sheet) used middle third count (now list) gate own around boxes (now work) ⌝ }
-    ensures { λ r. ⌜ Finishes (now (sheet .entry)) used middle third (now (list .entry)) gate own around (now (work .entry)) r (now (sheet .exit)) (now (work .exit)) ⌝ }
+    requires { ⌜ Regrouping (now sheet) stands (now list) gate own around boxes (now work) ⌝ }
+    ensures { λ r. ⌜ Finishes (now (sheet .entry)) stands (now (list .entry)) gate own around (now (work .entry)) r (now (sheet .exit)) (now (work .exit)) ⌝ }
 {
-    let from = third + COUNT_BYTES;
+    let from = stands.third + COUNT_BYTES;
+    let used = stands.used;
     let gone = around.later - around.earlier;
     let gap = kept::find_gap(&sheet[from..used], around.earlier, gone);
     let next = from + gap.next;
@@ -107,10 +106,8 @@ fn regroup(
             let rest = groups - around.earlier;
             Answer::Length(kept::put_around(
                 sheet,
-                middle,
-                third,
+                stands,
                 gap.at,
-                count,
                 list,
                 gate,
                 groups,
@@ -124,10 +121,7 @@ fn regroup(
 // The last step of an edit of A.
 pub fn settle(
     sheet: &mut [u8],
-    used: usize,
-    middle: usize,
-    third: usize,
-    count: usize,
+    stands: Standing,
     list: &[u8],
     gate: usize,
     own: usize,
@@ -135,34 +129,11 @@ pub fn settle(
     boxes: usize,
     work: &mut [u8],
 ) -> Answer
-    requires { ⌜ Settling (now sheet) used middle third count (now list) gate own around boxes (now work) ⌝ }
-    ensures { λ r. ⌜ Finishes (now (sheet .entry)) used middle third (now (list .entry)) gate own around (now (work .entry)) r (now (sheet .exit)) (now (work .exit)) ⌝ }
+    requires { ⌜ Settling (now sheet) stands (now list) gate own around boxes (now work) ⌝ }
+    ensures { λ r. ⌜ Finishes (now (sheet .entry)) stands (now (list .entry)) gate own around (now (work .entry)) r (now (sheet .exit)) (now (work .exit)) ⌝ }
 {
     if around.to <= around.place + 1 {
-        return regroup(
-            sheet,
-            used,
-            middle,
-            third,
-            count,
-            list,
-            gate,
-            own,
-            around,
-            boxes,
-            work,
-        );
+        return regroup(sheet, stands, list, gate, own, around, boxes, work);
     }
-    planner::finish(
-        sheet,
-        used,
-        middle,
-        third,
-        count,
-        list,
-        gate,
-        own,
-        around,
-        work,
-    )
+    planner::finish(sheet, stands, list, gate, own, around, work)
 }

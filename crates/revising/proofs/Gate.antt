@@ -27,9 +27,11 @@ use Rattle.sheet.specs.declared.OrderParts.the-variants.{Parts}
 use Rattle.sheet.proofs.Orders.{order-again}
 use Rattle.sheet.proofs.Accepted.{PairAccepted, ListAccepted}
 use Rattle.draft.specs.Arounds.{runSize, GroupsHeld, slotsAround, Placed}
+use Rattle.draft.specs.Sheets.{orderOf, groupsAt}
 use Rattle.draft.specs.declared.Around.{Around}
+use Rattle.draft.specs.declared.kept.Standing.{Standing}
 use Rattle.draft.proofs.Runs.{run-length}
-use Rattle.planner.specs.Steps.{slotted, orderOf, groupsAt, Finishes, AllAnew}
+use Rattle.planner.specs.Steps.{slotted, Finishes, AllAnew}
 use Rattle.planner.specs.Edits.{Asked, asked, kindOf, editOf, editedOf}
 use Rattle.planner.specs.declared.Change.{Change}
 use Rattle.planner.proofs.Finished.{part-is}
@@ -49,6 +51,9 @@ module _ {s : List ℕ} {n m middle third boxes : ℕ} (a : PairAccepted s n m m
 
   abbrev o : Order
   o = p .order
+
+  abbrev stands : Standing
+  stands = record { used = used; middle = middle; third = third; count = n }
 
   pub gate-there : (1 ≤ n) × (n ≤ limits .own) × (middle ≤ length sheet) × (listSize n ≤ used) × (middle ≤ third) × (third + countSize ≤ used)
   gate-there =
@@ -112,7 +117,7 @@ module _ {s : List ℕ} {n m middle third boxes : ℕ} (a : PairAccepted s n m m
 
         -- the new order sheet: the new A, and B as it stands in the sheet
         abbrev order : List ℕ
-        order = orderOf t middle third sheet
+        order = orderOf t stands sheet
 
         order-is : order ≡ listBytes l′ ++ listBytes (o .own)
         order-is = rw (c .bytes, own-bytes a sheet used is inside)
@@ -169,15 +174,15 @@ module _ {s : List ℕ} {n m middle third boxes : ℕ} (a : PairAccepted s n m m
             revised.revised-slotted a 0 place change new refl n (gates .gateCount) (c .done .found) (c .done .whole) (a .good .gate) (r .clean)
             ∙ rw (lists-new, slots-are)
 
-        groups-are : groupsAt third used sheet ≡ drop (third + countSize) s
+        groups-are : groupsAt stands sheet ≡ drop (third + countSize) s
         groups-are = part-is (third + countSize) used sheet (gate-there .5) inside ∙ ap (drop (third + countSize)) (sym is)
 
         module _ (v′ : Around) (same : v′ ≡ v) where
-          pub gate-settling : {w : List ℕ} → pairSize limits ≤ length sheet → workSize limits ≤ length w → Settling sheet used middle third n t n′ m v′ boxes w
+          pub gate-settling : {w : List ℕ} → pairSize limits ≤ length sheet → workSize limits ≤ length w → Settling sheet stands t n′ m v′ boxes w
           unfolding aroundOf
           gate-settling {w} h j =
               let g = a .place .lists .gateEnd in
-              subst (λ (x : Around). Settling sheet used middle third n t n′ m x boxes w) (sym same)
+              subst (λ (x : Around). Settling sheet stands t n′ m x boxes w) (sym same)
               (record {
                 finishing = record {
                   reads = order-read;
@@ -201,8 +206,8 @@ module _ {s : List ℕ} {n m middle third boxes : ℕ} (a : PairAccepted s n m m
                 exact = rw groups-are groups-long;
               })
 
-          pub gate-done : {w w′ sheet′ : List ℕ} {r : Answer} → Finishes sheet used middle third t n′ m v′ w r sheet′ w′ → Revised sheet used q w r sheet′ w′
+          pub gate-done : {w w′ sheet′ : List ℕ} {r : Answer} → Finishes sheet stands t n′ m v′ w r sheet′ w′ → Revised sheet used q w r sheet′ w′
           gate-done x =
-              let e : slotted (listsOf n′ m (listSize n′) order) (slotsAround v′ (groupsAt third used sheet) (drop countSize t)) ≡ editedOf limits (take used sheet) q =
+              let e : slotted (listsOf n′ m (listSize n′) order) (slotsAround v′ (groupsAt stands sheet) (drop countSize t)) ≡ editedOf limits (take used sheet) q =
               rw (same, groups-are) (sym edited-is ∙ ap (λ (z : List ℕ). editedOf limits z q) is) in
               rw e at x

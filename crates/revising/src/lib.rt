@@ -3,6 +3,7 @@
 use changes::change_list;
 use changes::places;
 use changes::put_list;
+use draft::kept::Standing;
 use planner::Change;
 use policy::Answer;
 use policy::GATE_MOST;
@@ -56,12 +57,15 @@ fn revise_gate_with(
                     next: _,
                 } => {
                     let around = places(&sheet[..used], gate, place, change, &list[..end], renewed);
-                    settle(
-                        sheet,
+                    let stands = Standing {
                         used,
                         middle,
                         third,
-                        gate,
+                        count: gate,
+                    };
+                    settle(
+                        sheet,
+                        stands,
                         &list[..end],
                         renewed,
                         own,

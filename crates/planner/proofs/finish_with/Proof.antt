@@ -12,9 +12,10 @@ use Rattle.wire.specs.Numbers.{Byte}
 use Rattle.wire.proofs.Numbers.{bytes-all}
 use Rattle.draft.specs.Drafts.{draftSize, DraftedGroups}
 use Rattle.draft.specs.Arounds.{boxesBefore, runSize, slotsBehind, Behind}
+use Rattle.draft.specs.Sheets.{orderOf, groupsAt}
 use Rattle.draft.specs.declared.Drafted.{Drafted}
 use Rattle.draft.specs.declared.Drafted.the-variants.{Groups}
-use Rattle.planner.specs.Steps.{orderOf, groupsAt, Finishing}
+use Rattle.planner.specs.Steps.{Finishing}
 use Rattle.planner.proofs.Finished.{order-bytes, own-few, to-few, front-held, finish-ready, finish-drafted, finish-six, finish-seven, finish-end, finish-rest, finish-put, finish-accepted}
 use Rattle.planner.proofs.finish_with.Statement.{statement}
 use Rattle.planner.proofs.finish_with.Tie as tie
@@ -25,16 +26,16 @@ module _ (c : tie.After-shared-slice-known) where
   list = c .before .before .args .list .now
 
   abbrev groups : List ℕ
-  groups = groupsAt (c .before .before .args .third) (c .before .before .args .used) (c .before .before .args .sheet .now)
+  groups = groupsAt (c .before .before .args .stands) (c .before .before .args .sheet .now)
 
-  ready : Finishing (c .before .before .args .sheet .now) (c .before .before .args .used) (c .before .before .args .middle) (c .before .before .args .third) (c .before .before .args .count) list (c .before .before .args .gate) (c .before .before .args .own) (c .before .before .args .around) (c .before .before .args .work .now)
+  ready : Finishing (c .before .before .args .sheet .now) (c .before .before .args .stands) list (c .before .before .args .gate) (c .before .before .args .own) (c .before .before .args .around) (c .before .before .args .work .now)
   ready = c .before .before .pre .0
 
   roomy : draftSize limits ≤ length (c .before .before .args .draft .now)
   roomy = c .before .before .pre .2
 
-  all : Each Byte (orderOf list (c .before .before .args .middle) (c .before .before .args .third) (c .before .before .args .sheet .now))
-  all = order-bytes list (c .before .before .args .sheet .now) (c .before .before .args .middle) (c .before .before .args .third) (bytes-all list (λ i. omega (arith, c .shared-slice-known .given i))) (bytes-all (c .before .before .args .sheet .now) (λ i. omega (arith, c .before .slice-known .given i)))
+  all : Each Byte (orderOf list (c .before .before .args .stands) (c .before .before .args .sheet .now))
+  all = order-bytes list (c .before .before .args .sheet .now) (c .before .before .args .stands) (bytes-all list (λ i. omega (arith, c .shared-slice-known .given i))) (bytes-all (c .before .before .args .sheet .now) (λ i. omega (arith, c .before .slice-known .given i)))
 
   rules : take (length list - countSize) (drop countSize list) ≡ drop countSize list
   rules = tail-whole list countSize (omega (arith, ready .long))
@@ -42,7 +43,7 @@ module _ (c : tie.After-shared-slice-known) where
 -- what the draft says, once it is made
 module _ (c : tie.After-draft-groups) where
   abbrev k : tie.After-shared-slice-known
-  k = c .before .before .before .before .before .before .before .before .before
+  k = c .before .before .before .before .before .before .before .before .before .before
 
   abbrev made : List ℕ
   made = c .draft-groups .last .1 .1 .1 .0
@@ -60,31 +61,31 @@ module _ (c : tie.After-draft-groups) where
   front = c .before .before .before .before .count-boxes .ensures
 
 add-from : tie.Need-add-from
-add-from c = omega (arith, ready (c .before .before) .start, ready (c .before .before) .end)
+add-from c = omega (arith, ready (c .before .before .before) .start, ready (c .before .before .before) .end)
 
 sub-count-boxes : tie.Need-sub-count-boxes
-sub-count-boxes c = omega (arith, ready (c .before .before) .start)
+sub-count-boxes c = omega (arith, ready (c .before .before .before) .start)
 
 part-count-boxes-start : tie.Need-part-count-boxes-start
-part-count-boxes-start c = omega (arith, ready (c .before .before .before) .start)
+part-count-boxes-start c = omega (arith, ready (c .before .before .before .before) .start)
 
 part-count-boxes-end : tie.Need-part-count-boxes-end
-part-count-boxes-end c = omega (arith, ready (c .before .before .before) .start, ready (c .before .before .before) .end)
+part-count-boxes-end c = omega (arith, ready (c .before .before .before .before) .start, ready (c .before .before .before .before) .end)
 
 count-boxes-requires : tie.Need-count-boxes-requires
-count-boxes-requires c κs = front-held (ready (c .before .before .before .before)) (all (c .before .before .before .before)) .there
+count-boxes-requires c κs = front-held (ready (c .before .before .before .before .before)) (all (c .before .before .before .before .before)) .there
 
 sub-draft-groups : tie.Need-sub-draft-groups
-sub-draft-groups c = omega (arith, ready (c .before .before .before .before .before) .long)
+sub-draft-groups c = omega (arith, ready (c .before .before .before .before .before .before) .long)
 
 part-draft-groups-start : tie.Need-part-draft-groups-start
-part-draft-groups-start c = omega (arith, ready (c .before .before .before .before .before) .long)
+part-draft-groups-start c = omega (arith, ready (c .before .before .before .before .before .before) .long)
 
 part-draft-groups-end : tie.Need-part-draft-groups-end
 part-draft-groups-end c = search needs
 
 draft-groups-requires : tie.Need-draft-groups-requires
-draft-groups-requires c κs = finish-ready (ready (c .before .before .before .before .before .before .before .before)) (all (c .before .before .before .before .before .before .before .before)) _ _ _ (rules (c .before .before .before .before .before .before .before .before)) (c .before .before .before .count-boxes .ensures) (roomy (c .before .before .before .before .before .before .before .before))
+draft-groups-requires c κs = finish-ready (ready (c .before .before .before .before .before .before .before .before .before)) (all (c .before .before .before .before .before .before .before .before .before)) _ _ _ (rules (c .before .before .before .before .before .before .before .before .before)) (c .before .before .before .count-boxes .ensures) (roomy (c .before .before .before .before .before .before .before .before .before))
 
 enum-told : tie.Need-enum-told
 enum-told c = search needs

@@ -23,8 +23,8 @@ enum-known-f c = search needs
 enum-known-gate : tie.Need-enum-known-gate
 enum-known-gate c = search needs
 
-add-finish : tie.Need-add-finish
-add-finish c = search needs
+add-t12 : tie.Need-add-t12
+add-t12 c = search needs
 
 finish-requires : tie.Need-finish-requires
 finish-requires c κs =
@@ -50,7 +50,7 @@ plan-spec =
     read-order-requires
     enum-known-f
     enum-known-gate
-    add-finish
+    add-t12
     finish-requires
     returns
     same-length

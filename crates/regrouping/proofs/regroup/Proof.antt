@@ -14,8 +14,7 @@ use Rattle.draft.specs.Arounds.{boxesBefore, runSize, slotsBehind, Behind}
 use Rattle.draft.specs.declared.Drafted.{Drafted}
 use Rattle.draft.specs.declared.Drafted.the-variants.{Groups}
 use Rattle.draft.specs.declared.kept.Gap.{Gap}
-use Rattle.draft.specs.Sheets.{partOf}
-use Rattle.planner.specs.Steps.{orderOf, groupsAt}
+use Rattle.draft.specs.Sheets.{partOf, orderOf, groupsAt}
 use Rattle.planner.proofs.Finished.{order-bytes, own-few, finish-six, finish-seven, finish-end, finish-rest, finish-put, finish-accepted}
 use Rattle.regrouping.specs.Regroups.{Regrouping}
 use Rattle.regrouping.proofs.Gaps.{groups-long, part-behind, gap-there, gap-boxes, gap-inside, gathering, gap-behind}
@@ -28,16 +27,16 @@ module _ (c : tie.After-shared-slice-known) where
   list = c .before .before .args .list .now
 
   abbrev groups : List ℕ
-  groups = groupsAt (c .before .before .args .third) (c .before .before .args .used) (c .before .before .args .sheet .now)
+  groups = groupsAt (c .before .before .args .stands) (c .before .before .args .sheet .now)
 
   abbrev from : ℕ
-  from = c .before .before .args .third + countSize
+  from = c .before .before .args .stands .third + countSize
 
-  ready : Regrouping (c .before .before .args .sheet .now) (c .before .before .args .used) (c .before .before .args .middle) (c .before .before .args .third) (c .before .before .args .count) list (c .before .before .args .gate) (c .before .before .args .own) (c .before .before .args .around) (c .before .before .args .boxes) (c .before .before .args .work .now)
+  ready : Regrouping (c .before .before .args .sheet .now) (c .before .before .args .stands) list (c .before .before .args .gate) (c .before .before .args .own) (c .before .before .args .around) (c .before .before .args .boxes) (c .before .before .args .work .now)
   ready = c .before .before .pre
 
-  all : Each Byte (orderOf list (c .before .before .args .middle) (c .before .before .args .third) (c .before .before .args .sheet .now))
-  all = order-bytes list (c .before .before .args .sheet .now) (c .before .before .args .middle) (c .before .before .args .third) (bytes-all list (λ i. omega (arith, c .shared-slice-known .given i))) (bytes-all (c .before .before .args .sheet .now) (λ i. omega (arith, c .before .slice-known .given i)))
+  all : Each Byte (orderOf list (c .before .before .args .stands) (c .before .before .args .sheet .now))
+  all = order-bytes list (c .before .before .args .sheet .now) (c .before .before .args .stands) (bytes-all list (λ i. omega (arith, c .shared-slice-known .given i))) (bytes-all (c .before .before .args .sheet .now) (λ i. omega (arith, c .before .slice-known .given i)))
 
   rules : take (length list - countSize) (drop countSize list) ≡ drop countSize list
   rules = tail-whole list countSize (omega (arith, ready .finishing .long))
@@ -45,7 +44,7 @@ module _ (c : tie.After-shared-slice-known) where
 -- the gap, once it is found
 module _ (c : tie.After-find-gap) where
   abbrev k : tie.After-shared-slice-known
-  k = c .before .before .before .before .before
+  k = c .before .before .before .before .before .before
 
   abbrev gap : Gap
   gap = c .find-gap .result
@@ -56,10 +55,10 @@ module _ (c : tie.After-find-gap) where
   found : (gap .at ≡ runSize (k .before .before .args .around .earlier) (groups k)) × (gap .next ≡ runSize (k .before .before .args .around .earlier + gone) (groups k)) × (gap .boxes + boxesBefore (k .before .before .args .around .earlier) (groups k) ≡ boxesBefore (k .before .before .args .around .earlier + gone) (groups k))
   found = c .find-gap .ensures
 
-  inside : from k + gap .next ≤ k .before .before .args .used
+  inside : from k + gap .next ≤ k .before .before .args .stands .used
   inside = omega (arith, gap-inside (ready k) gone refl gap found, groups-long (ready k), ready k .finishing .start)
 
-  back : partOf (from k + gap .next) (k .before .before .args .used) (k .before .before .args .sheet .now) ≡ drop (gap .next) (groups k)
+  back : partOf (from k + gap .next) (k .before .before .args .stands .used) (k .before .before .args .sheet .now) ≡ drop (gap .next) (groups k)
   back = part-behind (ready k) (gap .next) inside
 
 -- what is joined, once it is
@@ -74,22 +73,22 @@ module _ (c : tie.After-gather) where
   behind r e = gap-behind (ready (k g)) (gone g) refl (gap g) (found g) (all (k g)) _ _ (rules (k g)) (back g) _ r e (c .gather .ensures)
 
 add-from : tie.Need-add-from
-add-from c = omega (arith, ready (c .before) .finishing .start, ready (c .before) .finishing .end)
+add-from c = omega (arith, ready (c .before .before) .finishing .start, ready (c .before .before) .finishing .end)
 
 sub-gone : tie.Need-sub-gone
-sub-gone c = omega (arith, ready (c .before .before) .finishing .placed .between)
+sub-gone c = omega (arith, ready (c .before .before .before) .finishing .placed .between)
 
 sub-find-gap : tie.Need-sub-find-gap
-sub-find-gap c = omega (arith, ready (c .before .before) .finishing .start)
+sub-find-gap c = omega (arith, ready (c .before .before .before) .finishing .start)
 
 part-find-gap-start : tie.Need-part-find-gap-start
-part-find-gap-start c = omega (arith, ready (c .before .before .before) .finishing .start)
+part-find-gap-start c = omega (arith, ready (c .before .before .before .before) .finishing .start)
 
 part-find-gap-end : tie.Need-part-find-gap-end
-part-find-gap-end c = omega (arith, ready (c .before .before .before) .finishing .start, ready (c .before .before .before) .finishing .end)
+part-find-gap-end c = omega (arith, ready (c .before .before .before .before) .finishing .start, ready (c .before .before .before .before) .finishing .end)
 
 find-gap-requires : tie.Need-find-gap-requires
-find-gap-requires c κs = gap-there (ready (c .before .before .before .before)) _ refl
+find-gap-requires c κs = gap-there (ready (c .before .before .before .before .before)) _ refl
 
 add-next : tie.Need-add-next
 add-next c = let g = c .before in omega (arith, inside g, ready (k g) .finishing .end)
