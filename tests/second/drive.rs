@@ -2,6 +2,8 @@
 //! of every lent buffer, guards included, have to be the same.
 
 use std::process::exit;
+use std::sync::Mutex;
+use std::thread;
 
 use crate::boxes::Packet;
 use crate::calls::{self, encode, Answer};
@@ -18,6 +20,9 @@ use crate::tally::Tally;
 const ENOUGH_CASES: u64 = 20_000;
 const PROGRESS: u64 = 1_000;
 
+/// Held by the thread that reports, until it ends the program.
+static REPORTING: Mutex<()> = Mutex::new(());
+
 pub struct Driver {
     seed: u64,
     case: u64,
@@ -32,26 +37,50 @@ pub struct Driver {
     pub whole: Vec<u8>,
 }
 
-/// `count` cases from case `first` on; whether all held.
+/// `count` cases from case `first` on; whether all held. Two threads take turns with them: a case
+/// depends on its number alone.
 pub fn run(count: u64, seed: u64, first: u64) -> bool {
+    let cases = first..first + count;
+    let tally = thread::scope(|scope| {
+        let odd = scope.spawn(|| play(seed, cases.clone().skip(1).step_by(2)));
+        let mut tally = play(seed, cases.clone().step_by(2));
+        tally.add(odd.join().expect("a thread that failed has ended the program"));
+        tally
+    });
+    finish(&tally, count)
+}
+
+fn play(seed: u64, cases: impl Iterator<Item = u64>) -> Tally {
     let mut driver = Driver {
         seed,
-        case: first,
-        random: Random::of_case(seed, first),
+        case: 0,
+        random: Random::of_case(seed, 0),
         filling: Filling::new(),
         tally: Tally::default(),
         short_percent: 0,
         wild_percent: 0,
         whole: Vec::new(),
     };
-    for case in first..first + count {
+    for case in cases {
         driver.begin(case);
         scenes::play(&mut driver, case);
         if (case + 1) % PROGRESS == 0 {
             eprintln!("{} cases", case + 1);
         }
     }
-    driver.finish(count)
+    driver.tally
+}
+
+fn finish(tally: &Tally, count: u64) -> bool {
+    tally.print();
+    println!();
+    tally.print_grounds();
+    println!("{count} cases, {} calls, no difference", tally.total());
+    let missing = tally.missing();
+    if count >= ENOUGH_CASES {
+        missing.iter().for_each(|answer| println!("never met: {answer}"));
+    }
+    count < ENOUGH_CASES || missing.is_empty()
 }
 
 impl Driver {
@@ -61,18 +90,6 @@ impl Driver {
         self.short_percent = 1;
         self.wild_percent = 4;
         self.whole.clear();
-    }
-
-    fn finish(&self, count: u64) -> bool {
-        self.tally.print();
-        println!();
-        self.tally.print_grounds();
-        println!("{count} cases, {} calls, no difference", self.tally.total());
-        let missing = self.tally.missing();
-        if count >= ENOUGH_CASES {
-            missing.iter().for_each(|answer| println!("never met: {answer}"));
-        }
-        count < ENOUGH_CASES || missing.is_empty()
     }
 
     /// A buffer only read by the call.
@@ -104,14 +121,15 @@ impl Driver {
 
     /// Does the call both ways; ends the program with a report at the first difference.
     fn step(&mut self, step: Step) -> (Answer, Vec<Lent>) {
-        let Step { call, words, lent: given } = step;
-        let (mut expected, mut got) = (given.clone(), given);
+        let Step { call, words, lent } = step;
+        let given: Vec<Vec<u8>> = lent.iter().map(|l| l.bytes()[..l.given].to_vec()).collect();
         // The buffers themselves go to the library: a clone may stand where numbers may not.
-        let given = expected.clone();
+        let (mut expected, mut got) = (lent.clone(), lent);
         let answer = by_model(call, &words, &mut expected);
         let got_answer = by_library(call, &words, &mut got);
         if encode(answer) != got_answer || expected != got {
-            self.report(&Step { call, words, lent: given });
+            let _alone = REPORTING.lock();
+            self.report(call, &words, &got, &given);
             println!("answer expected {} got {got_answer}", encode(answer));
             report_buffers(&expected, &got);
             exit(1);
@@ -120,15 +138,14 @@ impl Driver {
         (answer, got)
     }
 
-    fn report(&self, step: &Step) {
+    fn report(&self, call: Call, words: &[u64], lent: &[Lent], given: &[Vec<u8>]) {
         println!("mismatch in case {} of seed {}", self.case, self.seed);
         println!("again: second drive 1 {} {}", self.seed, self.case);
-        println!("call: foldplover_{}", step.call.name());
-        println!("words: {:?}", step.words);
-        for lent in &step.lent {
-            let hex = |bytes: &[u8]| bytes.iter().map(|byte| format!("{byte:02x}")).collect();
-            let given: String = hex(&lent.bytes()[..lent.given]);
-            println!("lent {}, {} bytes, given {} {given}", lent.name, lent.length(), lent.given);
+        println!("call: foldplover_{}", call.name());
+        println!("words: {words:?}");
+        for (lent, given) in lent.iter().zip(given) {
+            let hex: String = given.iter().map(|byte| format!("{byte:02x}")).collect();
+            println!("lent {}, {} bytes, given {} {hex}", lent.name, lent.length(), lent.given);
         }
     }
 
@@ -137,6 +154,7 @@ impl Driver {
         if held {
             return;
         }
+        let _alone = REPORTING.lock();
         println!("demand not met in case {} of seed {}: {what}", self.case, self.seed);
         println!("again: second drive 1 {} {}", self.seed, self.case);
         for (name, bytes) in inputs {

@@ -59,7 +59,7 @@ add-t13 : tie.Need-add-t13
 add-t13 c = omega (arith, gone c, place (c .before .before), c .before .before .before .before .pre)
 
 returns : tie.Need-returns
-returns c = (place (c .before .before), omega (arith, gone c, place (c .before .before)), gone c)
+returns c = (place (c .before .before), omega (arith, gone c, place (c .before .before)), omega (arith, gone c))
 
 pub find-gap-spec : {M : Type 1} → statement M
 find-gap-spec =
