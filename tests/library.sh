@@ -19,5 +19,15 @@ done >target/desk.txt
 printf 'gate 29 bytes, cell 137 bytes\ngate 29 bytes, cell 9425 bytes\nrefused 6\n' | cmp - target/desk.txt
 
 tests/x86 rustc -O --edition 2021 --cfg library -L native=target/staticlib -o target/drive tests/second/main.rs
-tests/x86 run target/drive drive 20000 1 >target/drive.txt 2>target/drive.log || { cut -c 1-400 target/drive.txt | tail -n 20; exit 1; }
-tail -n 1 target/drive.txt
+# 20,000 cases, in two halves at a time. That every answer is met in them, the second program's own tests see.
+drive() {
+    tests/x86 run target/drive drive 10000 1 "$1" >"target/drive.$1.txt" 2>"target/drive.$1.log" && return
+    cut -c 1-400 "target/drive.$1.txt" | tail -n 20
+    return 1
+}
+drive 10000 &
+status=0
+drive 0 || status=1
+wait $! || status=1
+tail -q -n 1 target/drive.0.txt target/drive.10000.txt
+exit $status

@@ -2,8 +2,6 @@
 //! of every lent buffer, guards included, have to be the same.
 
 use std::process::exit;
-use std::sync::Mutex;
-use std::thread;
 
 use crate::boxes::Packet;
 use crate::calls::{self, encode, Answer};
@@ -20,9 +18,6 @@ use crate::tally::Tally;
 const ENOUGH_CASES: u64 = 20_000;
 const PROGRESS: u64 = 1_000;
 
-/// Held by the thread that reports, until it ends the program.
-static REPORTING: Mutex<()> = Mutex::new(());
-
 pub struct Driver {
     seed: u64,
     case: u64,
@@ -37,50 +32,26 @@ pub struct Driver {
     pub whole: Vec<u8>,
 }
 
-/// `count` cases from case `first` on; whether all held. Two threads take turns with them: a case
-/// depends on its number alone.
+/// `count` cases from case `first` on; whether all held.
 pub fn run(count: u64, seed: u64, first: u64) -> bool {
-    let cases = first..first + count;
-    let tally = thread::scope(|scope| {
-        let odd = scope.spawn(|| play(seed, cases.clone().skip(1).step_by(2)));
-        let mut tally = play(seed, cases.clone().step_by(2));
-        tally.add(odd.join().expect("a thread that failed has ended the program"));
-        tally
-    });
-    finish(&tally, count)
-}
-
-fn play(seed: u64, cases: impl Iterator<Item = u64>) -> Tally {
     let mut driver = Driver {
         seed,
-        case: 0,
-        random: Random::of_case(seed, 0),
+        case: first,
+        random: Random::of_case(seed, first),
         filling: Filling::new(),
         tally: Tally::default(),
         short_percent: 0,
         wild_percent: 0,
         whole: Vec::new(),
     };
-    for case in cases {
+    for case in first..first + count {
         driver.begin(case);
         scenes::play(&mut driver, case);
         if (case + 1) % PROGRESS == 0 {
             eprintln!("{} cases", case + 1);
         }
     }
-    driver.tally
-}
-
-fn finish(tally: &Tally, count: u64) -> bool {
-    tally.print();
-    println!();
-    tally.print_grounds();
-    println!("{count} cases, {} calls, no difference", tally.total());
-    let missing = tally.missing();
-    if count >= ENOUGH_CASES {
-        missing.iter().for_each(|answer| println!("never met: {answer}"));
-    }
-    count < ENOUGH_CASES || missing.is_empty()
+    driver.finish(count)
 }
 
 impl Driver {
@@ -90,6 +61,18 @@ impl Driver {
         self.short_percent = 1;
         self.wild_percent = 4;
         self.whole.clear();
+    }
+
+    fn finish(&self, count: u64) -> bool {
+        self.tally.print();
+        println!();
+        self.tally.print_grounds();
+        println!("{count} cases, {} calls, no difference", self.tally.total());
+        let missing = self.tally.missing();
+        if count >= ENOUGH_CASES {
+            missing.iter().for_each(|answer| println!("never met: {answer}"));
+        }
+        count < ENOUGH_CASES || missing.is_empty()
     }
 
     /// A buffer only read by the call.
@@ -128,7 +111,6 @@ impl Driver {
         let answer = by_model(call, &words, &mut expected);
         let got_answer = by_library(call, &words, &mut got);
         if encode(answer) != got_answer || expected != got {
-            let _alone = REPORTING.lock();
             self.report(call, &words, &got, &given);
             println!("answer expected {} got {got_answer}", encode(answer));
             report_buffers(&expected, &got);
@@ -154,7 +136,6 @@ impl Driver {
         if held {
             return;
         }
-        let _alone = REPORTING.lock();
         println!("demand not met in case {} of seed {}: {what}", self.case, self.seed);
         println!("again: second drive 1 {} {}", self.seed, self.case);
         for (name, bytes) in inputs {

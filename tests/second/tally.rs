@@ -23,15 +23,6 @@ impl Tally {
         *counter += 1;
     }
 
-    pub fn add(&mut self, other: Tally) {
-        for (call, count) in other.accepted {
-            *self.accepted.entry(call).or_default() += count;
-        }
-        for (ground, count) in other.refused {
-            *self.refused.entry(ground).or_default() += count;
-        }
-    }
-
     fn of_number(&self, call: Call, number: u32) -> u64 {
         let refused = self.refused.iter();
         let given = refused.filter(|((by, refusal), _)| *by == call && refusal.number() == number);
