@@ -26,9 +26,9 @@ use Rattle.draft.proofs.Drafts.{groupsBytes-append}
 use Rattle.draft.proofs.Runs.{boxes-split, held-front, held-behind}
 use Rattle.planner.specs.Steps.{Finishing}
 use Rattle.planner.proofs.Finished.{part-is, rules-good}
-use Rattle.regrouping.specs.Regroups.{Gathering, Joined, Gathered, Regrouping}
+use Rattle.regrouping.specs.Regroups.{Gathering, Joined, Gathered, Settling}
 
-module _ {sheet list w : List ℕ} {t : Standing} {gate own boxes : ℕ} {v : Around} (ready : Regrouping sheet t list gate own v boxes w) where
+module _ {sheet list w : List ℕ} {t : Standing} {gate own boxes : ℕ} {v : Around} (ready : Settling sheet t list gate own v boxes w) where
   abbrev from : ℕ
   from = t .third + countSize
 
@@ -80,8 +80,8 @@ module _ {sheet list w : List ℕ} {t : Standing} {gate own boxes : ℕ} {v : Ar
       back-is = rw next-is (held-behind (v .later) (v .groups) groups (finishing .placed .later) (finishing .held) (ready .exact))
 
       module _ (bytes : Each Byte (orderOf list t sheet)) (rules back : List ℕ) (rules-are : rules ≡ drop countSize list) (back-are : back ≡ drop (gap .next) groups) where
-        pub gathering : Gathering rules (v .place) (v .to) (boxes - gap .boxes) back w
-        gathering =
+        pub gathering : v .to ≤ v .place + 1 → Gathering rules (v .place) (v .to) (boxes - gap .boxes) back w
+        gathering one =
             let q = finishing .placed in
             let g = rules-good finishing bytes (v .to) (q .inGate) in
             let l : length back ≡ length groups - gap .next = ap length back-are ∙ length-drop (gap .next) groups in
@@ -89,7 +89,7 @@ module _ {sheet list w : List ℕ} {t : Standing} {gate own boxes : ℕ} {v : Ar
               records = rw rules-are (g .0);
               rulesSound = rw rules-are (g .1);
               upTo = q .upTo;
-              one = ready .one;
+              one = one;
               few = omega (arith, finishing .held .few, ready .all);
               size = omega (arith, ready .exact, next-is, lost-is, behind-boxes, ready .all, q .fits, q .later);
               workRoom = finishing .workRoom;

@@ -69,15 +69,8 @@ pub record Gathered (rules : List ℕ) (place to boxes : ℕ) (back work : List 
   pub few : FewBoxes r
   pub beyond : drop (workSize limits) work′ ≡ drop (workSize limits) work
 
--- What the last step asks for: what that of a move asks for; one rule at most to work out; and that section C is the old groups, of
--- so many boxes, and nothing else.
-pub record Regrouping (sheet : List ℕ) (t : Standing) (list : List ℕ) (gate own : ℕ) (v : Around) (boxes : ℕ) (work : List ℕ) : Type 0 where
-  pub finishing : Finishing sheet t list gate own v work
-  pub one : v .to ≤ v .place + 1
-  pub all : boxes ≡ boxesBefore (v .groups) (groupsAt t sheet)
-  pub exact : length (groupsAt t sheet) ≡ runSize (v .groups) (groupsAt t sheet)
-
--- The same of any edit of A: with more than one rule to work out, no group is kept behind the place.
+-- What the last step asks for: what that of a move asks for; no group kept behind the place where more than one rule is to be worked
+-- out; and that section C is the old groups, of so many boxes, and nothing else.
 pub record Settling (sheet : List ℕ) (t : Standing) (list : List ℕ) (gate own : ℕ) (v : Around) (boxes : ℕ) (work : List ℕ) : Type 0 where
   pub finishing : Finishing sheet t list gate own v work
   pub wide : v .place + 1 < v .to → AllAnew v

@@ -15,7 +15,7 @@ ghost use Prim.Native.Nat.{_+_, _*_, _≤_};
 ghost use lib.ListN.{length};
 ghost use Rattle.policy.specs.Fields.{recordSize};
 ghost use Rattle.planner.specs.Steps.{Finishes};
-ghost use Rattle.regrouping.specs.Regroups.{NoneDenies, JoinReady, JoinedIn, Gathering, Gathered, Regrouping, Settling};
+ghost use Rattle.regrouping.specs.Regroups.{NoneDenies, JoinReady, JoinedIn, Gathering, Gathered, Settling};
 
 // Whether no rule from the place up to `to` denies, where there is one at most.
 fn none_denies(rules: &[u8], place: usize, to: usize) -> bool
@@ -80,7 +80,7 @@ fn regroup(
     boxes: usize,
     work: &mut [u8],
 ) -> Answer
-    requires { ⌜ Regrouping (now sheet) stands (now list) gate own around boxes (now work) ⌝ }
+    requires { ⌜ Settling (now sheet) stands (now list) gate own around boxes (now work) × (around .to ≤ around .place + 1) ⌝ }
     ensures { λ r. ⌜ Finishes (now (sheet .entry)) stands (now (list .entry)) gate own around (now (work .entry)) r (now (sheet .exit)) (now (work .exit)) ⌝ }
 {
     let from = stands.third + COUNT_BYTES;

@@ -16,7 +16,7 @@ use Rattle.draft.specs.declared.Drafted.the-variants.{Groups}
 use Rattle.draft.specs.declared.kept.Gap.{Gap}
 use Rattle.draft.specs.Sheets.{partOf, orderOf, groupsAt}
 use Rattle.planner.proofs.Finished.{order-bytes, own-few, finish-six, finish-seven, finish-end, finish-rest, finish-put, finish-accepted}
-use Rattle.regrouping.specs.Regroups.{Regrouping}
+use Rattle.regrouping.specs.Regroups.{Settling}
 use Rattle.regrouping.proofs.Gaps.{groups-long, part-behind, gap-there, gap-boxes, gap-inside, gathering, gap-behind}
 use Rattle.regrouping.proofs.regroup.Statement.{statement}
 use Rattle.regrouping.proofs.regroup.Tie as tie
@@ -32,8 +32,8 @@ module _ (c : tie.After-shared-slice-known) where
   abbrev from : ℕ
   from = c .before .before .args .stands .third + countSize
 
-  ready : Regrouping (c .before .before .args .sheet .now) (c .before .before .args .stands) list (c .before .before .args .gate) (c .before .before .args .own) (c .before .before .args .around) (c .before .before .args .boxes) (c .before .before .args .work .now)
-  ready = c .before .before .pre
+  ready : Settling (c .before .before .args .sheet .now) (c .before .before .args .stands) list (c .before .before .args .gate) (c .before .before .args .own) (c .before .before .args .around) (c .before .before .args .boxes) (c .before .before .args .work .now)
+  ready = c .before .before .pre .0
 
   all : Each Byte (orderOf list (c .before .before .args .stands) (c .before .before .args .sheet .now))
   all = order-bytes list (c .before .before .args .sheet .now) (c .before .before .args .stands) (bytes-all list (λ i. omega (arith, c .shared-slice-known .given i))) (bytes-all (c .before .before .args .sheet .now) (λ i. omega (arith, c .before .slice-known .given i)))
@@ -115,7 +115,7 @@ part-gather-end-2 : tie.Need-part-gather-end-2
 part-gather-end-2 c = let g = c .before .before .before .before in omega (arith, inside g, ready (k g) .finishing .end)
 
 gather-requires : tie.Need-gather-requires
-gather-requires c κs = let g = c .before .before .before .before .before .before in gathering (ready (k g)) (gone g) refl (gap g) (found g) (all (k g)) _ _ (rules (k g)) (back g)
+gather-requires c κs = let g = c .before .before .before .before .before .before in gathering (ready (k g)) (gone g) refl (gap g) (found g) (all (k g)) _ _ (rules (k g)) (back g) (k g .before .before .pre .1)
 
 enum-told : tie.Need-enum-told
 enum-told c = search needs

@@ -7,7 +7,7 @@ add-if1 : tie.Need-add-if1
 add-if1 c = search needs
 
 regroup-requires : tie.Need-regroup-requires
-regroup-requires c κs = let p = c .before .before .before .before .before .before .before .before .pre in record { finishing = p .finishing; one = c .before .before .if1 .taken; all = p .all; exact = p .exact }
+regroup-requires c κs = (c .before .before .before .before .before .before .before .before .pre, c .before .before .if1 .taken)
 
 same-length : tie.Need-same-length
 same-length c = search needs
