@@ -13,7 +13,7 @@ use Rattle.policy.specs.Rules.{denies}
 use Rattle.policy.specs.Demands.{CutHolds, GroupHolds, MoveHolds, EditHolds, RunHolds, OthersKept, DenyOnly}
 use Rattle.policy.proofs.Cuts.{cut-inside, cut-few}
 use Rattle.policy.proofs.Groups.{cut-apart, cut-covers, group-inside, group-apart, group-covers}
-use Rattle.policy.proofs.Moves.{moved-pair-forwards, boxes-cover-what-the-gate-dropped}
+use Rattle.policy.proofs.Moves.{moved-pair-forwards, cell-first, boxes-cover-what-the-gate-dropped}
 use Rattle.policy.proofs.Edits.{list-accepted, move-accepted, edit-holds, run-holds}
 use Rattle.policy.proofs.Kept.{others-kept}
 
@@ -30,6 +30,7 @@ move-holds lim o h =
     record {
       forwarded = λ p. moved-pair-forwards o p (f .0) (f .1);
       boxes = λ p. boxes-cover-what-the-gate-dropped o p (f .0);
+      cell-first = λ p. cell-first o p (f .0);
     }
 
 -- Demand 3, from every accepted move: one edit, a run of edits, and the groups of other rules.

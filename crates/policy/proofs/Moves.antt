@@ -12,7 +12,7 @@ use Rattle.lists.proofs.Tests.{and-true, and-both, or-assoc}
 use Rattle.lists.proofs.Lists.{each-append}
 use Rattle.policy.specs.Fields.{highest}
 use Rattle.policy.specs.Ranges.{range, Region, Packet, within, inside, Whole, everyField, properRange, proper, fullRange, isFull, fullOver}
-use Rattle.policy.specs.Rules.{Rule, isAllow, sound, Found, found, nothing, firstFrom, saysAllow, saysDrop, allows, drops, inLimits, forwards, complete}
+use Rattle.policy.specs.Rules.{Rule, isAllow, sound, Found, found, nothing, firstFrom, first, saysAllow, saysDrop, allows, drops, inLimits, forwards, complete}
 use Rattle.policy.specs.Cut.{group, anyHas}
 use Rattle.policy.specs.Refusals.{given, faults}
 use Rattle.policy.specs.Move.{
@@ -240,3 +240,16 @@ moved-pair-forwards o p h k =
     go : (f d a b : Bool) → a ≡ (f && not d) → (saysAllow (cond f (found 0 1) nothing) && (not d && b)) ≡ (a && b)
     go true d a b e = rw e
     go false d a b e = rw e
+
+-- The old gate with the new cell list forwards what the old pair did, so the cell list can be loaded first.
+pub cell-first : (o : Order) (p : Packet) → faults (o .gate) ≡ 0 → forwards p (o .gate) (cellList (moved o)) ≡ forwards p (o .gate) (o .own)
+cell-first o p h =
+    rw (denials-allow p (together (moved o .groups)) (o .own) 0, boxes-cover-what-the-gate-dropped o p h) (go (first p (o .gate)) (allows p (o .own)))
+  where
+    go : (x : Found) (b : Bool) → (saysAllow x && (not (saysDrop x) && b)) ≡ (saysAllow x && b)
+    go (found n a) b = both (eqb a 1)
+      where
+        both : (t : Bool) → (t && (not (not t) && b)) ≡ (t && b)
+        both true = refl
+        both false = refl
+    go nothing b = refl

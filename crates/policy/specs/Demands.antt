@@ -42,10 +42,11 @@ pub record GroupHolds (d : Region) (allows : List Region) : Type 0 where
   pub exact : (p : Packet) → Covers (group (d ∷ []) allows) p ↔ ((inside p d && not (anyHas p allows)) ≡ true)
 
 -- Demand 2: of lists that are read without fault, the moved pair forwards each packet exactly if the old pair did, and its
--- boxes have exactly the packets that the old gate dropped. (When a move is refused is `moveRefusal`'s own text.)
+-- boxes have exactly the packets that the old gate dropped; and so does the old gate before the new cell list. (When a move is refused is `moveRefusal`'s own text.)
 pub record MoveHolds (o : Order) : Type 0 where
   pub forwarded : (p : Packet) → forwards p (gateList (moved o)) (cellList (moved o)) ≡ forwards p (o .gate) (o .own)
   pub boxes : (p : Packet) → anyHas p (together (moved o .groups)) ≡ drops p (o .gate)
+  pub cell-first : (p : Packet) → forwards p (o .gate) (cellList (moved o)) ≡ forwards p (o .gate) (o .own)
 
 -- Demand 3, one edit: it answers as a fresh move of the edited lists does (9 before that, where there is no such place), and
 -- what it gives is that move's pair.

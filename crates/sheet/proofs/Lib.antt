@@ -2,7 +2,9 @@ pub mod Parts
 pub mod Outcomes
 pub mod Sections
 pub mod Orders
+pub mod Prefixes
 pub mod Pairs
+pub mod Lengths
 pub mod Loops
 pub mod SectionReader
 pub mod OrderReader

@@ -4,7 +4,7 @@ use mathlib.Core.List.{List, [], _∷_, _++_, append-assoc}
 use Prim.Native.Nat.{ℕ, zero, suc, _+_, _*_, _-_, _<_, _≤_}
 use native.Mathlib.Omega.{arith}
 use lib.ListN.{length, getD, drop, take, length-append, length-drop}
-use lib.Seq.{drop-at, take-add, drop-drop}
+use lib.Seq.{drop-at, take-add, drop-drop, drop-append-le}
 use Rattle.lists.specs.Lists.{Each}
 use Rattle.wire.specs.Numbers.{Byte}
 use Rattle.wire.proofs.Numbers.{bytes-drop}
@@ -24,6 +24,7 @@ pub record Items (A : Type 0) : Type 1 where
   pub written-length : (a : A) → Good a → length (write a) ≡ size
   pub read-back : (a : A) (rest : List ℕ) → Good a → read (write a ++ rest) ≡ a
   pub written-back : (s : List ℕ) → size ≤ length s → Each Byte s → write (read s) ≡ take size s
+  pub read-front : (s t : List ℕ) → size ≤ length s → read (s ++ t) ≡ read s
 
 module _ {A : Type 0} (i : Items A) where
   pub items-written-length : (l : List A) → Each (i .Good) l → length (i .writeAll l) ≡ i .size * length l
@@ -54,6 +55,14 @@ module _ {A : Type 0} (i : Items A) where
       let e : i .size * suc n ≡ i .size + i .size * n = omega arith in
       let r = items-written-back n (drop (i .size) s) (rw length-drop (omega arith)) (bytes-drop (i .size) s b) in
       rw (i .more-read n s, i .more-written, r, i .written-back s (omega arith) b, e) (sym (take-add (i .size) (i .size * n) s))
+
+  -- What is read hangs on the items' own bytes alone.
+  pub items-front : (n : ℕ) (s t : List ℕ) → i .size * n ≤ length s → i .readAll n (s ++ t) ≡ i .readAll n s
+  items-front zero s t h = i .none-read _ ∙ sym (i .none-read s)
+  items-front (suc n) s t h =
+      let e : i .size * suc n ≡ i .size + i .size * n = omega arith in
+      let r = items-front n (drop (i .size) s) t (rw length-drop (omega arith)) in
+      i .more-read n (s ++ t) ∙ (rw (i .read-front s t (omega arith), drop-append-le (i .size) s t (omega arith), r) (sym (i .more-read n s)))
 
   -- A loop over items: the item at a place, and those from it on.
   pub items-from : (k n : ℕ) (s : List ℕ) → drop k (i .readAll n s) ≡ i .readAll (n - k) (drop (i .size * k) s)

@@ -7,7 +7,7 @@ use Prim.Native.Nat.{ℕ, suc, _+_, _*_, _-_, _^_, _<_, _≤_}
 use native.Mathlib.Omega.{arith}
 use lib.Dec.{eqb, leb}
 use lib.ListN.{length, getD, drop, take, length-append, length-drop}
-use lib.Seq.{take-at, drop-at, take-add, drop-drop, length-take-le}
+use lib.Seq.{take-at, drop-at, take-add, drop-drop, length-take-le, take-append-le, drop-append-le}
 use borrow.Author.Tests.{eqb-true, leb-true}
 use Rattle.lists.specs.Lists.{Each, every}
 use Rattle.lists.proofs.Tests.{and-true}
@@ -18,7 +18,7 @@ use Rattle.policy.proofs.Moves.{rule-proper}
 use Rattle.wire.specs.Numbers.{numberBytes, numberIn, Byte}
 use Rattle.wire.specs.Records.{rangesBytes, rangesIn, boxBytes, boxIn, recordBytes, ruleIn, boxesBytes, boxesIn, recordsBytes, rulesIn, Fits}
 use Rattle.wire.proofs.Numbers.{numberBytes-length, number-back, number-bound, bytes-back, bytes-take, bytes-drop}
-use Rattle.wire.proofs.Items.{Items, items-written-length, items-read-length, items-back, items-written-back, items-from, item-at}
+use Rattle.wire.proofs.Items.{Items, items-written-length, items-read-length, items-back, items-written-back, items-front, items-from, item-at}
 
 -- Ranges in any widths.
 pub rangesBytes-length : (ws : List ℕ) (b : Region) → length b ≡ length ws → length (rangesBytes ws b) ≡ sizeOf ws
@@ -137,6 +137,31 @@ box-back b rest h = ranges-back widths b rest h
 pub box-written-back : (s : List ℕ) → boxSize ≤ length s → Each Byte s → boxBytes (boxIn s) ≡ take boxSize s
 box-written-back s h b = ranges-bytes-back widths s h b
 
+-- What is read hangs on the box's own bytes alone.
+ranges-front : (ws s t : List ℕ) → sizeOf ws ≤ length s → rangesIn ws (s ++ t) ≡ rangesIn ws s
+unfolding rangesIn
+ranges-front [] s t h = refl
+ranges-front (w ∷ ws) s t h =
+    rw (
+      take-append-le w s t (omega arith),
+      drop-append-le w s t (omega arith),
+      take-append-le w (drop w s) t (rw length-drop (omega arith)),
+      drop-append-le (w + w) s t (omega arith),
+      ranges-front ws (drop (w + w) s) t (rw length-drop (omega arith)),
+    )
+
+box-front : (s t : List ℕ) → boxSize ≤ length s → boxIn (s ++ t) ≡ boxIn s
+box-front s t h = ranges-front widths s t h
+
+rule-front : (s t : List ℕ) → recordSize ≤ length s → ruleIn (s ++ t) ≡ ruleIn s
+unfolding ruleIn
+rule-front s t h =
+    rw (
+      box-front s t (omega arith),
+      drop-append-le boxSize s t (omega arith),
+      take-append-le actionSize (drop boxSize s) t (rw length-drop (omega arith)),
+    )
+
 -- One record.
 pub recordBytes-length : (r : Rule) → RuleFits r → length (recordBytes r) ≡ recordSize
 unfolding recordBytes
@@ -182,6 +207,7 @@ boxItems = record {
   written-length = boxBytes-length;
   read-back = box-back;
   written-back = box-written-back;
+  read-front = box-front;
 }
 
 ruleItems : Items Rule
@@ -200,6 +226,7 @@ ruleItems = record {
   written-length = recordBytes-length;
   read-back = rule-back;
   written-back = record-written-back;
+  read-front = rule-front;
 }
 
 pub boxesBytes-length : (bs : List Region) → Each (Fits widths) bs → length (boxesBytes bs) ≡ boxSize * length bs
@@ -217,6 +244,10 @@ boxes-back = items-back boxItems
 pub boxes-written-back : (n : ℕ) (s : List ℕ) → boxSize * n ≤ length s → Each Byte s → boxesBytes (boxesIn n s) ≡ take (boxSize * n) s
 unfolding boxItems
 boxes-written-back = items-written-back boxItems
+
+pub boxes-front : (n : ℕ) (s t : List ℕ) → boxSize * n ≤ length s → boxesIn n (s ++ t) ≡ boxesIn n s
+unfolding boxItems
+boxes-front = items-front boxItems
 
 pub box-in-place : (i n : ℕ) (s : List ℕ) (d : Region) → i < n → getD (boxesIn n s) i d ≡ boxIn (drop (boxSize * i) s)
 unfolding boxItems
@@ -237,6 +268,10 @@ rules-back = items-back ruleItems
 pub records-written-back : (n : ℕ) (s : List ℕ) → recordSize * n ≤ length s → Each Byte s → recordsBytes (rulesIn n s) ≡ take (recordSize * n) s
 unfolding ruleItems
 records-written-back = items-written-back ruleItems
+
+pub rules-front : (n : ℕ) (s t : List ℕ) → recordSize * n ≤ length s → rulesIn n (s ++ t) ≡ rulesIn n s
+unfolding ruleItems
+rules-front = items-front ruleItems
 
 pub rules-from : (i n : ℕ) (s : List ℕ) → drop i (rulesIn n s) ≡ rulesIn (n - i) (drop (recordSize * i) s)
 unfolding ruleItems
