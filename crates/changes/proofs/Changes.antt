@@ -26,7 +26,7 @@ use Rattle.wire.proofs.Records.{RuleFits, record-written-back}
 use Rattle.planner.specs.Edits.{kindOf, wholeRecord}
 use Rattle.planner.specs.declared.Change.{Change}
 use Rattle.planner.specs.declared.Change.the-variants.{Insert, Delete, Replace}
-use Rattle.changes.specs.Changes.{takenBy, putBy, spliced, newBytes, changedBytes, overlaid, ListChanged}
+use Rattle.changes.specs.Steps.{takenBy, putBy, spliced, newBytes, changedBytes, overlaid, ListChanged}
 use Rattle.changes.proofs.Splices.{section-spliced}
 
 -- what a change takes out and puts in

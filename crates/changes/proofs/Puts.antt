@@ -11,9 +11,9 @@ use Rattle.wire.specs.Buffers.{zeroed, filled}
 use Rattle.wire.specs.Lists.{listSize}
 use Rattle.wire.proofs.Buffers.{filled-is}
 use Rattle.sheet.specs.Pairs.{pairSize}
-use Rattle.draft.specs.Sheets.{movedTo, RoomReady}
+use Rattle.draft.specs.Steps.{movedTo, RoomReady}
 use Rattle.draft.proofs.Rooms.{part-long}
-use Rattle.changes.specs.Puts.{withList, PutReady}
+use Rattle.changes.specs.Steps.{withList, PutReady}
 
 module _ {s list : List ℕ} {start count used renewed : ℕ} (h : PutReady s start count used list renewed) where
   abbrev next : ℕ

@@ -15,7 +15,7 @@ use Rattle.wire.specs.Numbers.{numberBytes}
 use Rattle.wire.specs.Records.{recordsBytes}
 use Rattle.wire.proofs.Numbers.{numberBytes-length}
 use Rattle.wire.proofs.Records.{records-append, RuleFits, recordsBytes-length}
-use Rattle.changes.specs.Changes.{spliced}
+use Rattle.changes.specs.Steps.{spliced}
 use Rattle.wire.specs.Lists.{listBytes}
 
 -- four parts one behind another

@@ -12,12 +12,11 @@ use Rattle.policy.specs.Rules.{Rule, isAllow, denies, anyAllow}
 use Rattle.policy.proofs.Kept.{denies-append}
 use Rattle.wire.specs.Records.{ruleIn, rulesIn}
 use Rattle.wire.proofs.Records.{rulesIn-length, rules-from}
-use Rattle.sheet.specs.Readers.{rulesOf}
+use Rattle.sheet.specs.Steps.{rulesOf}
 use Rattle.draft.specs.declared.Around.{Around}
 use Rattle.draft.proofs.Drafts.{rules-front}
 use Rattle.planner.specs.declared.Change.{Change}
-use Rattle.changes.specs.Changes.{takenBy, putBy}
-use Rattle.changes.specs.Drafts.{touched, aroundOf}
+use Rattle.changes.specs.Steps.{takenBy, putBy, touched, aroundOf}
 
 -- no rule, or the one at the place
 pub no-rule : (s : List ℕ) (place n : ℕ) → n ≡ 0 → false ≡ anyAllow (drop place (rulesOf (place + n) s))

@@ -16,11 +16,9 @@ ghost use Rattle.policy.specs.Rules.{anyAllow};
 ghost use Rattle.wire.specs.Buffers.{filled};
 ghost use Rattle.wire.specs.Lists.{listSize};
 ghost use Rattle.sheet.specs.Pairs.{pairSize};
-ghost use Rattle.sheet.specs.Readers.{rulesOf};
+ghost use Rattle.sheet.specs.Steps.{rulesOf};
 ghost use Rattle.planner.specs.Edits.{wholeRecord};
-ghost use Rattle.changes.specs.Changes.{takenBy, putBy, spliced, changedBytes, ListChanged};
-ghost use Rattle.changes.specs.Puts.{withList, PutReady};
-ghost use Rattle.changes.specs.Drafts.{aroundOf};
+ghost use Rattle.changes.specs.Steps.{takenBy, putBy, spliced, changedBytes, ListChanged, withList, PutReady, aroundOf};
 
 // How many rules a change takes out at its place, and how many it puts in.
 fn taken_by(change: Change) -> usize

@@ -7,7 +7,7 @@ use Prim.Native.Nat.{ℕ, _+_, _<_, _≤_}
 use native.Mathlib.Omega.{arith}
 use lib.ListN.{length, take, drop}
 use borrow.Author.Tests.{lt-leb}
-use Rattle.policy.specs.Fields.{countSize, limits}
+use Rattle.policy.specs.Fields.{countSize, limits, workSize}
 use Rattle.policy.specs.Ranges.{Region}
 use Rattle.policy.specs.Refusals.{accepted, refused, numberOf}
 use Rattle.policy.specs.Move.{together, work, Order, Pair, moved}
@@ -18,16 +18,15 @@ use Rattle.policy.specs.declared.Refusal.{Refusal}
 use Rattle.policy.specs.declared.Refusal.the-variants.{BufferShort, TooManyPieces, GroupsDiffer}
 use Rattle.policy.proofs.Answers.{said-once}
 use Rattle.policy.proofs.Checks.{groups-sound, groups-self}
-use Rattle.wire.specs.Buffers.{zeroed}
-use Rattle.groups.specs.Worked.{workSize}
+use Rattle.wire.specs.Buffers.{zeroed, answered}
 use Rattle.sheet.specs.Pairs.{groupsBytes, pairIn, pairBytes}
-use Rattle.sheet.specs.Readers.{listsOf, pairOf, pairHeard, PairPlace, PairPlaced}
+use Rattle.sheet.specs.Steps.{listsOf, pairOf, pairHeard, PairPlace, PairPlaced}
 use Rattle.sheet.specs.declared.PairParts.the-variants as P
 use Rattle.sheet.proofs.Pairs.{pair-back}
 use Rattle.sheet.proofs.Accepted.{PairAccepted}
-use Rattle.draft.specs.Drafts.{DraftedGroups, draftSize}
+use Rattle.draft.specs.Steps.{DraftedGroups, draftSize}
 use Rattle.draft.specs.declared.Drafted.the-variants as D
-use Rattle.planner.specs.Calls.{roomFor, workAfter, checkedOf, checkOf, yes, Checks}
+use Rattle.planner.specs.Calls.{roomFor, workAfter, checkedOf, checkOf, Checks}
 use Rattle.checking.specs.Steps.{SameGroups, CheckRead}
 use Rattle.planner.proofs.Good.{moved-good}
 use Rattle.planner.proofs.Calls.{room-there}
@@ -107,16 +106,16 @@ module _ {s : List ℕ} {n m middle third boxes : ℕ} (a : PairAccepted s n m m
 -- The call: 1 unless the work buffer is long enough, then what the check came to.
 module _ (s w : List ℕ) where
   pub check-short : length w < workSize limits → Checks s w (Refused BufferShort) w
-  unfolding roomFor workAfter yes
+  unfolding roomFor workAfter answered
   check-short h = let e = lt-leb (workSize limits) (length w) h in record { answer = rw e; work = rw e }
 
   module _ (h : workSize limits ≤ length w) {w′ : List ℕ} (e : w′ ≡ zeroed 0 (workSize limits) w) where
     pub check-no : {f : Refusal} → CheckRead s (P.Fault f) → Checks s w (Refused f) w′
-    unfolding workAfter yes pairHeard
+    unfolding workAfter answered pairHeard
     check-no x = let l = room-there (workSize limits) w h in record { answer = rw (l, ← x .says); work = rw l e }
 
     pub check-yes : {n m middle third boxes : ℕ} → CheckRead s (P.Parts n m middle third boxes) → Checks s w (Length 0) w′
-    unfolding workAfter yes pairHeard
+    unfolding workAfter answered pairHeard
     check-yes x = let l = room-there (workSize limits) w h in record { answer = rw (l, ← x .says); work = rw l e }
 
   pub check-once : {r q : Answer} {u v : List ℕ} → Checks s w r u → Checks s w q v → (r ≡ q) × (u ≡ v)

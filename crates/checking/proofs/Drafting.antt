@@ -7,22 +7,21 @@ use Prim.Native.Nat.{ℕ, _+_, _≤_}
 use native.Mathlib.Omega.{arith}
 use lib.ListN.{length, take, drop, length-drop}
 use borrow.Author.Tests.{le-ltb}
-use Rattle.policy.specs.Fields.{countSize, limits}
+use Rattle.policy.specs.Fields.{countSize, limits, workSize}
 use Rattle.policy.specs.Rules.{allowsIn}
 use Rattle.policy.specs.Move.{slotsOf, startOf, together, anyOver, work, room, Order, moved, moveRefusal}
 use Rattle.policy.specs.declared.Refusal.the-variants.{TooManyPieces}
 use Rattle.policy.proofs.Numbers.{orElse-both}
 use Rattle.wire.specs.Records.{rulesIn}
 use Rattle.wire.proofs.Records.{rulesIn-length}
-use Rattle.groups.specs.Worked.{workSize}
 use Rattle.sheet.specs.Pairs.{groupsBytes}
-use Rattle.sheet.specs.Readers.{rulesOf, listsOf}
+use Rattle.sheet.specs.Steps.{rulesOf, listsOf}
 use Rattle.sheet.proofs.Outcomes.{faultless}
 use Rattle.sheet.proofs.Accepted.{PairAccepted}
 use Rattle.sheet.proofs.Pairs.{ProperGroup, denies-most}
 use Rattle.lists.specs.Lists.{Each}
 use Rattle.policy.proofs.Edits.{slots-length}
-use Rattle.draft.specs.Drafts.{stretch, Drafting, Ready, DraftedGroups, draftSize}
+use Rattle.draft.specs.Steps.{stretch, Drafting, Ready, DraftedGroups, draftSize}
 use Rattle.draft.specs.declared.Drafted.the-variants as D
 use Rattle.draft.proofs.Drawn.{drawn-over, drawn-light, drawn-boxes, drawn-end, drawn-content}
 use Rattle.planner.proofs.Good.{moved-good}

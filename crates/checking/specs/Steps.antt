@@ -5,7 +5,7 @@ use mathlib.Core.Bool.{Bool, true, false}
 use Prim.Native.Nat.{ℕ}
 use lib.ListN.{take, drop}
 use Rattle.policy.specs.Fields.{limits}
-use Rattle.sheet.specs.Readers.{pairHeard, PairPlaced}
+use Rattle.sheet.specs.Steps.{pairHeard, PairPlaced}
 use Rattle.sheet.specs.declared.PairParts.{PairParts}
 use Rattle.planner.specs.Calls.{checkOf}
 

@@ -10,10 +10,9 @@ ghost use mathlib.Core.Path.{_≡_};
 ghost use mathlib.Core.Bool.{true};
 ghost use Prim.Native.Nat.{_≤_};
 ghost use lib.ListN.{length, drop};
-ghost use Rattle.policy.specs.Fields.{limits};
+ghost use Rattle.policy.specs.Fields.{limits, workSize};
 ghost use Rattle.wire.specs.Buffers.{zeroed};
-ghost use Rattle.groups.specs.Worked.{workSize};
-ghost use Rattle.draft.specs.Drafts.{draftSize};
+ghost use Rattle.draft.specs.Steps.{draftSize};
 ghost use Rattle.planner.specs.Calls.{Checks};
 ghost use Rattle.checking.specs.Steps.{SameGroups, CheckRead};
 

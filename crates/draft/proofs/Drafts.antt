@@ -17,7 +17,7 @@ use Rattle.policy.proofs.Edits.{slots-append, over-append, together-append, all
 use Rattle.wire.specs.Records.{ruleIn, rulesIn}
 use Rattle.wire.proofs.Records.{rules-from, rulesIn-length}
 use Rattle.sheet.specs.Pairs.{groupBytes, groupsBytes}
-use Rattle.draft.specs.Drafts.{alone, stretch, slotGroups, Drawn, Drafting}
+use Rattle.draft.specs.Steps.{alone, stretch, slotGroups, Told, Drafting}
 use Rattle.draft.specs.declared.Drafted.{Drafted}
 use Rattle.draft.specs.declared.Drafted.the-variants.{Groups, TooManyPieces}
 
@@ -28,33 +28,33 @@ groupsBytes-append (g ∷ x) y = rw (groupsBytes-append x y) (sym (append-assoc 
 
 -- nothing to draft
 pub drafting-none : (lim : Limits) (draft : List ℕ) (at boxes : ℕ) → Drafting lim [] draft at boxes (Groups boxes at) draft
-unfolding Drawn anyOver together groupsBytes
-drafting-none lim draft at boxes = record { drawn = (refl, omega arith, λ h. (omega arith, refl)) }
+unfolding Told anyOver together groupsBytes
+drafting-none lim draft at boxes = record { told = (refl, omega arith, λ h. (omega arith, refl)) }
 
 -- one stretch behind another
 pub drafting-over : {lim : Limits} {x : List Slot} (y : List Slot) {draft draft′ : List ℕ} (last : List ℕ) {at boxes : ℕ}
     → Drafting lim x draft at boxes TooManyPieces draft′ → Drafting lim (x ++ y) draft at boxes TooManyPieces last
-unfolding Drawn
-drafting-over {lim} {x} y last h = record { drawn = over-append (lim .pieces) x y ∙ rw (h .drawn) }
+unfolding Told
+drafting-over {lim} {x} y last h = record { told = over-append (lim .pieces) x y ∙ rw (h .told) }
 
 pub drafting-then : {lim : Limits} {x y : List Slot} {draft draft′ last : List ℕ} {at boxes b n : ℕ} (r : Drafted)
     → Drafting lim x draft at boxes (Groups b n) draft′ → Drafting lim y draft′ n b r last → Drafting lim (x ++ y) draft at boxes r last
-unfolding Drawn
-drafting-then {lim} {x} {y} TooManyPieces h k = record { drawn = over-append (lim .pieces) x y ∙ rw (h .drawn .0, k .drawn) }
+unfolding Told
+drafting-then {lim} {x} {y} TooManyPieces h k = record { told = over-append (lim .pieces) x y ∙ rw (h .told .0, k .told) }
 drafting-then {lim} {x} {y} {draft} {draft′} {last} {at} {boxes} {b} {n} (Groups c m) h k =
     let e : length (together (slotGroups (x ++ y))) ≡ length (together (slotGroups x)) + length (together (slotGroups y)) =
     rw (map-append boxesOf x y, together-append (slotGroups x) (slotGroups y)) (length-append (together (slotGroups x)) (together (slotGroups y))) in
     let f : groupsBytes (slotGroups (x ++ y)) ≡ groupsBytes (slotGroups x) ++ groupsBytes (slotGroups y) =
     rw (map-append boxesOf x y) (groupsBytes-append (slotGroups x) (slotGroups y)) in
-    let hb = h .drawn .1 in
-    let kb = k .drawn .1 in
+    let hb = h .told .1 in
+    let kb = k .told .1 in
     record {
-      drawn = (
-        over-append (lim .pieces) x y ∙ rw (h .drawn .0, k .drawn .0),
+      told = (
+        over-append (lim .pieces) x y ∙ rw (h .told .0, k .told .0),
         omega arith,
         λ t.
-            let u = h .drawn .2 (omega arith) in
-            let v = k .drawn .2 t in
+            let u = h .told .2 (omega arith) in
+            let v = k .told .2 t in
             (rw (f, length-append) (omega arith), v .1 ∙ rw (u .1, f, sets-append draft at (groupsBytes (slotGroups x)) (groupsBytes (slotGroups y)), u .0)),
       );
     }
@@ -63,16 +63,16 @@ drafting-then {lim} {x} {y} {draft} {draft′} {last} {at} {boxes} {b} {n} (Grou
 module _ (lim : Limits) (start allows : List Region) (draft : List ℕ) (at boxes : ℕ) where
   pub drafting-one-over : (last : List ℕ) → over (lim .pieces) start allows ≡ true
       → Drafting lim (anew start allows ∷ []) draft at boxes TooManyPieces last
-  unfolding Drawn anyOver overSlot
-  drafting-one-over last h = record { drawn = rw h }
+  unfolding Told anyOver overSlot
+  drafting-one-over last h = record { told = rw h }
 
   pub drafting-one : (n b end : ℕ) (last : List ℕ) → over (lim .pieces) start allows ≡ false → n ≡ length (group start allows)
       → b ≡ boxes + n → (b ≤ lim .total → (end ≡ at + length (groupBytes (group start allows))) × (last ≡ sets draft at (groupBytes (group start allows))))
       → Drafting lim (anew start allows ∷ []) draft at boxes (Groups b end) last
-  unfolding Drawn anyOver overSlot boxesOf together groupsBytes
+  unfolding Told anyOver overSlot boxesOf together groupsBytes
   drafting-one n b end last h e f g =
       record {
-        drawn = (
+        told = (
           rw h,
           rw (append-none (group start allows)) (omega arith),
           λ t.

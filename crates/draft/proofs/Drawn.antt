@@ -12,30 +12,29 @@ use Rattle.policy.specs.Fields.{limits}
 use Rattle.policy.specs.Move.{Slot, boxesOf, together, anyOver}
 use Rattle.sheet.specs.Pairs.{groupsBytes}
 use Rattle.sheet.proofs.Pairs.{ProperGroup}
-use Rattle.draft.specs.Drafts.{slotGroups, Drawn, Drafting, draftSize}
-use Rattle.draft.specs.Arounds.{Told, Behind}
+use Rattle.draft.specs.Steps.{slotGroups, Told, Drafting, draftSize, Told, Behind}
 use Rattle.draft.specs.declared.Drafted.{Drafted}
 use Rattle.draft.specs.declared.Drafted.the-variants.{Groups, TooManyPieces}
 use Rattle.draft.proofs.Laid.{groups-length}
 
 module _ {l : List Slot} {draft draft′ : List ℕ} {front : ℕ} where
   pub drawn-over : Drafting limits l draft 0 front TooManyPieces draft′ → anyOver (limits .pieces) l ≡ true
-  unfolding Drawn
-  drawn-over x = x .drawn
+  unfolding Told
+  drawn-over x = x .told
 
   module _ {boxes end : ℕ} (x : Drafting limits l draft 0 front (Groups boxes end) draft′) where
     pub drawn-light : anyOver (limits .pieces) l ≡ false
-    unfolding Drawn
-    drawn-light = x .drawn .0
+    unfolding Told
+    drawn-light = x .told .0
 
     pub drawn-boxes : boxes ≡ front + length (together (slotGroups l))
-    unfolding Drawn
-    drawn-boxes = x .drawn .1
+    unfolding Told
+    drawn-boxes = x .told .1
 
     module _ (few : boxes ≤ limits .total) (proper : Each ProperGroup (slotGroups l)) (short : length l ≤ limits .gate) (room : draftSize limits ≤ length draft) where
       bytes-drawn : (end ≡ 0 + length (groupsBytes (slotGroups l))) × (draft′ ≡ sets draft 0 (groupsBytes (slotGroups l)))
-      unfolding Drawn
-      bytes-drawn = x .drawn .2 few
+      unfolding Told
+      bytes-drawn = x .told .2 few
 
       pub drawn-end : end ≤ length draft
       drawn-end = omega (arith, bytes-drawn .0, groups-length (slotGroups l) proper, length-map l boxesOf, drawn-boxes)

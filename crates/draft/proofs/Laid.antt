@@ -14,7 +14,7 @@ use Rattle.wire.proofs.Numbers.{numberBytes-length}
 use Rattle.sheet.specs.Pairs.{groupBytes, groupsBytes}
 use Rattle.wire.proofs.Counts.{counted}
 use Rattle.sheet.proofs.Pairs.{ProperGroup}
-use Rattle.draft.specs.Sheets.{Laid}
+use Rattle.draft.specs.Steps.{Laid}
 use Rattle.lists.proofs.Lists.{each-every}
 
 pub groups-length : (gs : List (List Region)) → Each ProperGroup gs → length (groupsBytes gs) ≡ countSize * length gs + boxSize * length (together gs)

@@ -9,12 +9,13 @@ use Rattle.lists.proofs.Lists.{sets-parts}
 use Rattle.lists.proofs.Parts.{tail-whole, tail-back}
 use Rattle.policy.specs.Fields.{countSize, recordSize, limits}
 use Rattle.wire.specs.Numbers.{numberBytes}
-use Rattle.wire.specs.Buffers.{zeroed, filled, copiedDown, copiedUp}
+use Rattle.wire.specs.Buffers.{zeroed, filled}
+use Rattle.wire.specs.Steps.{copiedDown, copiedUp}
 use Rattle.wire.proofs.Buffers.{filled-is}
 use Rattle.wire.proofs.Numbers.{numberBytes-length}
 use Rattle.sheet.specs.Pairs.{pairSize}
 use Rattle.draft.specs.declared.kept.Standing.{Standing}
-use Rattle.draft.specs.Sheets.{partOf, sheetAround, movedTo, RoomReady, AroundPut}
+use Rattle.draft.specs.Steps.{partOf, sheetAround, movedTo, RoomReady, AroundPut}
 
 module _ {s : List ℕ} {next behind count renewed : ℕ} (h : RoomReady s next behind count renewed) where
   abbrev part : List ℕ

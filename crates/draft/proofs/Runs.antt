@@ -15,35 +15,35 @@ use Rattle.policy.specs.Move.{together}
 use Rattle.policy.proofs.Edits.{together-append}
 use Rattle.wire.proofs.Records.{boxesIn-length}
 use Rattle.sheet.specs.Pairs.{groupSize, groupBoxes, groupsBytes}
-use Rattle.sheet.specs.Readers.{groupsFrom}
+use Rattle.sheet.specs.Steps.{groupsFrom, boxCount}
 use Rattle.sheet.proofs.Pairs.{ProperGroup}
 use Rattle.draft.proofs.Drafts.{groupsBytes-append}
 use Rattle.draft.proofs.Laid.{groups-length}
-use Rattle.draft.specs.Arounds.{boxesBefore, runSize, GroupsHeld}
+use Rattle.draft.specs.Steps.{runSize, GroupsHeld}
 use Rattle.wire.specs.Lists.{countIn}
 
-boxes-cons : (n : ℕ) (s : List ℕ) → boxesBefore (suc n) s ≡ countIn s + boxesBefore n (drop (groupSize (countIn s)) s)
+boxes-cons : (n : ℕ) (s : List ℕ) → boxCount (suc n) s ≡ countIn s + boxCount n (drop (groupSize (countIn s)) s)
 unfolding groupsFrom together
 boxes-cons n s =
     length-append (groupBoxes s) (together (groupsFrom n (drop (groupSize (countIn s)) s)))
-    ∙ ap (λ (k : ℕ). k + boxesBefore n (drop (groupSize (countIn s)) s)) (boxesIn-length (countIn s) (drop countSize s))
+    ∙ ap (λ (k : ℕ). k + boxCount n (drop (groupSize (countIn s)) s)) (boxesIn-length (countIn s) (drop countSize s))
 
 -- the groups from a place on: the boxes of the first, and the groups behind it
 pub boxes-next : (left : ℕ) (s : List ℕ) (at count : ℕ) → 0 < left → count ≡ countIn (drop at s)
-    → boxesBefore left (drop at s) ≡ count + boxesBefore (left - 1) (drop (at + countSize + boxSize * count) s)
+    → boxCount left (drop at s) ≡ count + boxCount (left - 1) (drop (at + countSize + boxSize * count) s)
 boxes-next left s at count h e =
     let l : left ≡ suc (left - 1) = omega arith in
     let p : at + groupSize count ≡ at + countSize + boxSize * count = omega arith in
-    ap (λ (n : ℕ). boxesBefore n (drop at s)) l ∙ boxes-cons (left - 1) (drop at s)
+    ap (λ (n : ℕ). boxCount n (drop at s)) l ∙ boxes-cons (left - 1) (drop at s)
     ∙ rw (← e, drop-drop (groupSize count) at s, p)
 
-pub boxes-none : (left : ℕ) (s : List ℕ) → left ≤ 0 → boxesBefore left s ≡ 0
+pub boxes-none : (left : ℕ) (s : List ℕ) → left ≤ 0 → boxCount left s ≡ 0
 unfolding groupsFrom together
 boxes-none zero s h = refl
 boxes-none (suc left) s h = absurd (omega arith)
 
 -- the groups behind the first ones
-pub boxes-behind : (i j : ℕ) (s : List ℕ) → boxesBefore (i + j) s ≡ boxesBefore i s + boxesBefore j (drop (runSize i s) s)
+pub boxes-behind : (i j : ℕ) (s : List ℕ) → boxCount (i + j) s ≡ boxCount i s + boxCount j (drop (runSize i s) s)
 boxes-behind zero j s =
     let z = boxes-none 0 s (omega arith) in
     let e : zero + j ≡ j = omega arith in
@@ -56,8 +56,8 @@ boxes-behind (suc i) j s =
     let b = boxes-cons i s in
     let c = boxes-behind i j t in
     let r : groupSize (countIn s) + runSize i t ≡ runSize (suc i) s = omega arith in
-    let d : boxesBefore j (drop (runSize i t) t) ≡ boxesBefore j (drop (runSize (suc i) s) s) =
-    ap (boxesBefore j) (drop-drop (runSize i t) (groupSize (countIn s)) s ∙ ap (λ (k : ℕ). drop k s) r) in
+    let d : boxCount j (drop (runSize i t) t) ≡ boxCount j (drop (runSize (suc i) s) s) =
+    ap (boxCount j) (drop-drop (runSize i t) (groupSize (countIn s)) s ∙ ap (λ (k : ℕ). drop k s) r) in
     rw e (omega arith)
 
 -- the same of the part of a buffer that begins behind the first ones
@@ -68,7 +68,7 @@ module _ (earlier gone : ℕ) (s : List ℕ) (there : runSize (earlier + gone) s
   pub part-inside : at ≤ length s
   part-inside = omega (arith, boxes-behind earlier gone s)
 
-  pub part-boxes : boxesBefore gone part + boxesBefore earlier s ≡ boxesBefore (earlier + gone) s
+  pub part-boxes : boxCount gone part + boxCount earlier s ≡ boxCount (earlier + gone) s
   part-boxes = rw (tail-whole s at part-inside, is) (omega (arith, boxes-behind earlier gone s))
 
   pub part-there : runSize gone part ≤ length part
@@ -89,7 +89,7 @@ groups-front (suc i) zero s h = absurd (omega arith)
 groups-front (suc i) (suc n) s h = ap (λ (l : List (List Region)). groupBoxes s ∷ l) (groups-front i n (drop (groupSize (countIn s)) s) (omega arith))
 
 pub run-length : (n : ℕ) (s : List ℕ) → Each ProperGroup (groupsFrom n s) → length (groupsBytes (groupsFrom n s)) ≡ runSize n s
-run-length n s p = groups-length (groupsFrom n s) p ∙ ap (λ (k : ℕ). countSize * k + boxSize * boxesBefore n s) (groups-count n s)
+run-length n s p = groups-length (groupsFrom n s) p ∙ ap (λ (k : ℕ). countSize * k + boxSize * boxCount n s) (groups-count n s)
 
 module _ (i n : ℕ) (s : List ℕ) (upTo : i ≤ n) (held : GroupsHeld s n) where
   abbrev all : List (List Region)
@@ -104,7 +104,7 @@ module _ (i n : ℕ) (s : List ℕ) (upTo : i ≤ n) (held : GroupsHeld s n) whe
   both-bytes : take (runSize n s) s ≡ groupsBytes (groupsFrom i s) ++ groupsBytes (drop i all)
   both-bytes = sym (held .bytes) ∙ ap groupsBytes both ∙ groupsBytes-append (groupsFrom i s) (drop i all)
 
-  pub boxes-split : boxesBefore n s ≡ boxesBefore i s + length (together (drop i all))
+  pub boxes-split : boxCount n s ≡ boxCount i s + length (together (drop i all))
   boxes-split = ap (λ (l : List (List Region)). length (together l)) both ∙ rw (together-append (groupsFrom i s) (drop i all)) (length-append (together (groupsFrom i s)) (together (drop i all)))
 
   pub held-front : GroupsHeld s i

@@ -12,7 +12,7 @@ use Rattle.policy.specs.Fields.{boxSize, countSize}
 use Rattle.wire.specs.Numbers.{numberBytes, Byte}
 use Rattle.wire.proofs.Numbers.{numberBytes-length, bytes-back, bytes-take, bytes-drop}
 use Rattle.sheet.specs.Pairs.{groupSize}
-use Rattle.draft.specs.Sheets.{Laid}
+use Rattle.draft.specs.Steps.{Laid}
 use Rattle.wire.specs.Lists.{countIn}
 
 -- the count at the front, and the boxes copied behind it

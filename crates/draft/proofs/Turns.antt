@@ -7,7 +7,7 @@ use native.Mathlib.Omega.{arith}
 use lib.ListN.{length, take, drop, length-append}
 use lib.Seq.{sets, length-take-le}
 use Rattle.lists.proofs.Parts.{tail-sets}
-use Rattle.policy.specs.Fields.{boxSize, countSize, recordSize, limits}
+use Rattle.policy.specs.Fields.{boxSize, countSize, recordSize, limits, workSize}
 use Rattle.policy.specs.Ranges.{Region}
 use Rattle.policy.specs.Rules.{isAllow}
 use Rattle.policy.specs.Cut.{group}
@@ -16,10 +16,10 @@ use Rattle.policy.proofs.Groups.{over-few}
 use Rattle.wire.specs.Numbers.{numberBytes}
 use Rattle.wire.specs.Records.{boxesBytes, ruleIn}
 use Rattle.wire.proofs.Numbers.{numberBytes-length}
-use Rattle.groups.specs.Worked.{startAt, allowsAt, workedOf, GroupStands, WorkedOut, workSize}
+use Rattle.groups.specs.Steps.{startAt, allowsAt, workedOf, GroupStands, WorkedOut}
 use Rattle.groups.specs.declared.Worked.the-variants.{Boxes, TooMany}
 use Rattle.sheet.specs.Pairs.{groupSize, groupBytes}
-use Rattle.draft.specs.Drafts.{Appended, stretch, Drafting, Bounded, Ready, DraftedGroups}
+use Rattle.draft.specs.Steps.{Appended, stretch, Drafting, Bounded, Ready, DraftedGroups}
 use Rattle.draft.specs.declared.Drafted.{Drafted}
 use Rattle.draft.specs.declared.Drafted.the-variants.{Groups, TooManyPieces}
 use Rattle.draft.proofs.Drafts.{drafting-none, drafting-over, drafting-then, drafting-one-over, drafting-one, stretch-none, stretch-next, stretch-allow, stretch-deny, rules-sound-front}

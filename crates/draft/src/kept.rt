@@ -11,8 +11,8 @@ ghost use lib.Seq.{sets};
 ghost use Rattle.policy.specs.Fields.{limits};
 ghost use Rattle.wire.specs.Buffers.{filled};
 ghost use Rattle.sheet.specs.Pairs.{pairSize};
-ghost use Rattle.draft.specs.Arounds.{boxesBefore, runSize};
-ghost use Rattle.draft.specs.Sheets.{sheetAround, movedTo, RoomReady, AroundPut};
+ghost use Rattle.draft.specs.Steps.{runSize, sheetAround, movedTo, RoomReady, AroundPut};
+ghost use Rattle.sheet.specs.Steps.{boxCount};
 
 // Where the groups before a place end, where those behind the ones that go begin, and how many boxes go.
 pub struct Gap {
@@ -33,7 +33,7 @@ pub struct Standing {
 // How many boxes the first n groups have.
 pub fn count_boxes(s: &[u8], n: usize) -> usize
     requires { ⌜ runSize n (now s) ≤ length (now s) ⌝ }
-    ensures { λ r. ⌜ r ≡ boxesBefore n (now (s .entry)) ⌝ }
+    ensures { λ r. ⌜ r ≡ boxCount n (now (s .entry)) ⌝ }
 {
     let mut boxes: usize = 0;
     let mut at: usize = 0;
@@ -50,7 +50,7 @@ pub fn count_boxes(s: &[u8], n: usize) -> usize
 // The gap that so many groups behind the first ones leave.
 pub fn find_gap(groups: &[u8], earlier: usize, gone: usize) -> Gap
     requires { ⌜ runSize (earlier + gone) (now groups) ≤ length (now groups) ⌝ }
-    ensures { λ r. ⌜ (r .at ≡ runSize earlier (now (groups .entry))) × (r .next ≡ runSize (earlier + gone) (now (groups .entry))) × (r .boxes + boxesBefore earlier (now (groups .entry)) ≡ boxesBefore (earlier + gone) (now (groups .entry))) ⌝ }
+    ensures { λ r. ⌜ (r .at ≡ runSize earlier (now (groups .entry))) × (r .next ≡ runSize (earlier + gone) (now (groups .entry))) × (r .boxes + boxCount earlier (now (groups .entry)) ≡ boxCount (earlier + gone) (now (groups .entry))) ⌝ }
 {
     let front = count_boxes(groups, earlier);
     let at = COUNT_BYTES * earlier + BOX_BYTES * front;

@@ -17,8 +17,7 @@ ghost use Rattle.policy.specs.Rules.{isAllow};
 ghost use Rattle.wire.specs.Numbers.{numberBytes};
 ghost use Rattle.wire.specs.Records.{ruleIn};
 ghost use Rattle.sheet.specs.Pairs.{groupSize};
-ghost use Rattle.draft.specs.Drafts.{Appended, Ready, DraftedGroups};
-ghost use Rattle.draft.specs.Sheets.{Laid};
+ghost use Rattle.draft.specs.Steps.{Appended, Ready, DraftedGroups, Laid};
 
 pub const DRAFT_BYTES: usize = COUNT_BYTES * GATE_MOST + BOX_BYTES * TOTAL_MOST;
 

@@ -5,9 +5,8 @@ use mathlib.Core.Bool.{true, false}
 use Prim.Native.Nat.{ℕ, _≤_, _<_}
 use lib.ListN.{length, take}
 use borrow.Author.Tests.{le-leb, lt-leb}
-use Rattle.policy.specs.Fields.{limits}
+use Rattle.policy.specs.Fields.{limits, workSize}
 use Rattle.policy.specs.declared.Answer.{Answer}
-use Rattle.groups.specs.Worked.{workSize}
 use Rattle.sheet.specs.Pairs.{pairBytes, pairSize}
 use Rattle.planner.specs.Calls.{roomFor}
 use Rattle.planner.specs.Edits.{Asked, editLent, editedOf, Edits}

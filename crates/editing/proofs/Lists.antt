@@ -9,7 +9,7 @@ use Rattle.policy.specs.Move.{Pair}
 use Rattle.policy.specs.declared.Answer.{Answer}
 use Rattle.wire.specs.Buffers.{written, lengthOf}
 use Rattle.sheet.specs.Pairs.{pairIn, pairBytes, pairSize}
-use Rattle.sheet.specs.Readers.{pairOf, pairHeard, PairRead}
+use Rattle.sheet.specs.Steps.{pairOf, pairHeard, PairRead}
 use Rattle.sheet.specs.declared.PairParts.{PairParts}
 use Rattle.sheet.specs.declared.PairParts.the-variants.{Parts}
 use Rattle.planner.specs.Steps.{Writes}

@@ -8,12 +8,11 @@ use sheet::PairParts;
 ghost use mathlib.Core.Path.{_≡_};
 ghost use Prim.Native.Nat.{_≤_};
 ghost use lib.ListN.{length};
-ghost use Rattle.policy.specs.Fields.{limits};
+ghost use Rattle.policy.specs.Fields.{limits, workSize};
 ghost use Rattle.policy.specs.Refusals.{said, refused, andThen};
 ghost use Rattle.sheet.specs.Pairs.{pairIn, pairSize};
-ghost use Rattle.groups.specs.Worked.{workSize};
 ghost use Rattle.planner.specs.Edits.{asked, Edits};
-ghost use Rattle.revising.specs.Edits.{Revised};
+ghost use Rattle.revising.specs.Steps.{Revised};
 
 // There are two lists, A (0) and B (1): any other is refused as a place that is not there, once the sheet is read.
 fn refuse_list(pair: &[u8]) -> Answer

@@ -9,7 +9,7 @@ use lib.ListN.{length, getD}
 use borrow.Author.Tests.{le-leb, leb-true}
 use Rattle.lists.proofs.Tests.{and-true, and-both, bool-eq}
 use Rattle.policy.specs.Ranges.{Range, Region, Packet, within, inside, Whole}
-use Rattle.policy.specs.Values.{rangeAt}
+use Rattle.policy.specs.Steps.{rangeAt}
 
 and-false : (b : Bool) → (b && false) ≡ false
 and-false true = refl

@@ -2,18 +2,16 @@
 use mathlib.Core.Path.{_≡_, refl, ap, sym, _∙_}
 use mathlib.Core.List.{List, [], _∷_}
 use mathlib.Core.Bool.{Bool, true, false, cond}
-use Prim.Native.Nat.{ℕ, suc, _^_, _<_, _≤_}
+use Prim.Native.Nat.{ℕ, suc}
 use native.Mathlib.Omega.{arith}
 use lib.ListN.{length}
 use Rattle.lists.specs.Lists.{Each}
-use Rattle.policy.specs.Fields.{countSize}
 use Rattle.policy.specs.Ranges.{Packet, inside}
-use Rattle.policy.specs.Rules.{Rule, Found, found, firstFrom, first}
+use Rattle.policy.specs.Rules.{Rule, Found, found, firstFrom}
 use Rattle.policy.specs.Refusals.{Outcome, accepted, faults}
 use Rattle.policy.proofs.Moves.{faults-cons}
 use Rattle.wire.proofs.Records.{RuleFits, sound-fits}
-use Rattle.filter.specs.Lookup.{Hit, hit, lookFrom, lookup}
-use Rattle.filter.specs.Verdicts.{decidedBy}
+use Rattle.filter.specs.Lookup.{Hit, hit, lookFrom, LookupTheorem, decidedBy}
 use Rattle.filter.proofs.Lookups.{good-head}
 use Rattle.wire.specs.Lists.{listBytes}
 use Rattle.wire.proofs.Lists.{listBytes-length, list-count, list-rules}
@@ -37,8 +35,7 @@ look-first n p (r ∷ l) h =
     rw (g .0) (turn (inside p (r .region)) n (r .action) (lookFrom (suc n) p l) (firstFrom (suc n) p l) (look-first (suc n) p l (g .1)))
 
 -- Lookup in the bytes of a list with no fault answers by first match.
-pub lookup-first : (most : ℕ) (p : Packet) (l : List Rule) → faults l ≡ 0 → 1 ≤ length l → length l ≤ most → most < 256 ^ countSize
-    → lookup most p (listBytes l) ≡ decidedBy (first p l)
+pub lookup-first : LookupTheorem
 lookup-first most p l h some few bound =
     let f = faultless-fit l h in
     let g = listBytes-length l f in

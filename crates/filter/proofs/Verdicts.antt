@@ -18,7 +18,7 @@ use Rattle.wire.specs.Numbers.{numberIn}
 use Rattle.wire.specs.Records.{rulesIn}
 use Rattle.wire.proofs.Records.{sound-action, rulesIn-length}
 use Rattle.filter.specs.Lookup.{Hit, hit, lookFrom, lookup, lookupNumber}
-use Rattle.filter.specs.Verdicts.{verdict}
+use Rattle.filter.specs.Steps.{verdict}
 use Rattle.filter.specs.declared.Verdict.{Verdict}
 use Rattle.filter.specs.declared.Verdict.the-variants.{Decided, Refused}
 use Rattle.wire.specs.Lists.{listSize}
@@ -34,24 +34,24 @@ pub lookup-once : (v w : Verdict) {o : Outcome Hit} → verdict v ≡ o → verd
 lookup-once v w x y = verdict-once v w (x ∙ sym y)
 
 -- The place of the rule that decides is one of the list, and its action is 0 or 1.
-abbrev pub Small : ℕ → Hit → Type 0
-Small n h = (h .place < n) × (h .action ≤ 1)
+abbrev pub InList : ℕ → Hit → Type 0
+InList n h = (h .place < n) × (h .action ≤ 1)
 
-turn-small : (t : Bool) (i n a : ℕ) (rest : Outcome Hit) (h : Hit) → Small n (hit i a) → (rest ≡ accepted h → Small n h)
-    → cond t (accepted (hit i a)) rest ≡ accepted h → Small n h
-turn-small true i n a rest h g f e = let d : hit i a ≡ h = cc in subst (λ (x : Hit). Small n x) d g
+turn-small : (t : Bool) (i n a : ℕ) (rest : Outcome Hit) (h : Hit) → InList n (hit i a) → (rest ≡ accepted h → InList n h)
+    → cond t (accepted (hit i a)) rest ≡ accepted h → InList n h
+turn-small true i n a rest h g f e = let d : hit i a ≡ h = cc in subst (λ (x : Hit). InList n x) d g
 turn-small false i n a rest h g f e = f e
 
-pub look-small : (i : ℕ) (p : Packet) (l : List Rule) (h : Hit) → lookFrom i p l ≡ accepted h → Small (i + length l) h
+pub look-small : (i : ℕ) (p : Packet) (l : List Rule) (h : Hit) → lookFrom i p l ≡ accepted h → InList (i + length l) h
 unfolding lookFrom
 look-small i p [] h e = let z : _≡_ {A = ℕ} 0 1 = cc in absurd (omega arith)
 look-small i p (r ∷ l) h e =
     let rest : Outcome Hit = lookFrom (suc i) p l in
     let t = test-accepted (sound r) 4 (cond (inside p (r .region)) (accepted (hit i (r .action))) rest) e in
     let m : suc i + length l ≡ i + suc (length l) = omega arith in
-    turn-small (inside p (r .region)) i (i + suc (length l)) (r .action) rest h (omega arith, sound-action r (t .0)) (λ g. subst (λ (n : ℕ). Small n h) m (look-small (suc i) p l h g)) (t .1)
+    turn-small (inside p (r .region)) i (i + suc (length l)) (r .action) rest h (omega arith, sound-action r (t .0)) (λ g. subst (λ (n : ℕ). InList n h) m (look-small (suc i) p l h g)) (t .1)
 
-lookup-small : (most : ℕ) (p : Packet) (s : List ℕ) (h : Hit) → lookup most p s ≡ accepted h → Small most h
+lookup-small : (most : ℕ) (p : Packet) (s : List ℕ) (h : Hit) → lookup most p s ≡ accepted h → InList most h
 unfolding lookup
 lookup-small most p s h e =
     let n : ℕ = numberIn (take countSize s) in
@@ -84,7 +84,7 @@ module _ (most : ℕ) (p : Packet) (s : List ℕ) (v : Verdict) (says : verdict 
   refused-number f is = sym (ap lookupNumber (sym says ∙ ap verdict is))
 
 -- The number for C tells the whole outcome: no two outcomes of lookups have the same.
-pub tells : (n : ℕ) → 2 * n ≤ refusalBase → (o q : Outcome Hit) → ((h : Hit) → o ≡ accepted h → Small n h) → ((h : Hit) → q ≡ accepted h → Small n h)
+pub tells : (n : ℕ) → 2 * n ≤ refusalBase → (o q : Outcome Hit) → ((h : Hit) → o ≡ accepted h → InList n h) → ((h : Hit) → q ≡ accepted h → InList n h)
     → lookupNumber o ≡ lookupNumber q → o ≡ q
 unfolding lookupNumber
 tells n b (accepted h) (accepted k) f g e =

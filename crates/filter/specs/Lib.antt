@@ -1,2 +1,2 @@
 pub mod Lookup
-pub mod Verdicts
+pub mod Steps

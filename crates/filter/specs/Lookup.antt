@@ -1,15 +1,16 @@
 -- Lookup of a packet in list bytes (01, Calls and Numbers given back). Assumes nothing.
+use mathlib.Core.Path.{_≡_}
 use mathlib.Core.List.{List, [], _∷_}
 use mathlib.Core.Bool.{cond}
-use Prim.Native.Nat.{ℕ, suc, _+_, _*_}
+use Prim.Native.Nat.{ℕ, suc, _+_, _*_, _^_, _≤_, _<_}
 use lib.Dec.{leb, eqb}
 use lib.ListN.{length, drop}
 use Rattle.policy.specs.Fields.{countSize}
 use Rattle.policy.specs.Ranges.{Packet, inside}
-use Rattle.policy.specs.Rules.{Rule, sound}
-use Rattle.policy.specs.Refusals.{refusalBase, Outcome, accepted, refused, test}
+use Rattle.policy.specs.Rules.{Rule, sound, Found, found, nothing, first}
+use Rattle.policy.specs.Refusals.{refusalBase, Outcome, accepted, refused, test, faults}
 use Rattle.wire.specs.Records.{rulesIn}
-use Rattle.wire.specs.Lists.{countIn, listSize}
+use Rattle.wire.specs.Lists.{countIn, listSize, listBytes}
 
 -- The rule that decides: its place, from 0, and its action.
 pub record Hit : Type 0 where
@@ -38,3 +39,14 @@ lookup most p s =
 unfoldable pub lookupNumber : Outcome Hit → ℕ
 lookupNumber (accepted h) = 2 * h .place + h .action
 lookupNumber (refused n) = refusalBase + n
+
+-- What first match comes to in a lookup: the rule that decides, or 5 where none fits.
+abbrev pub decidedBy : Found → Outcome Hit
+decidedBy (found place action) = accepted (hit place action)
+decidedBy nothing = refused 5
+
+-- In the bytes of a list without a bad rule, a lookup answers by first match.
+abbrev pub LookupTheorem : Type 0
+LookupTheorem =
+    (most : ℕ) (p : Packet) (l : List Rule) → faults l ≡ 0 → 1 ≤ length l → length l ≤ most → most < 256 ^ countSize
+    → lookup most p (listBytes l) ≡ decidedBy (first p l)

@@ -8,23 +8,21 @@ use native.Mathlib.Omega.{arith}
 use lib.Dec.{leb}
 use lib.ListN.{length}
 use borrow.Author.Tests.{leb-true}
-use Rattle.policy.specs.Fields.{limits, recordSize}
-use Rattle.policy.specs.Rules.{Rule}
+use Rattle.policy.specs.Fields.{limits, recordSize, workSize}
 use Rattle.policy.specs.Refusals.{refusalBase, Outcome, accepted, refused, test, said}
-use Rattle.policy.specs.Move.{Order, Pair}
+use Rattle.policy.specs.Move.{Order}
 use Rattle.policy.specs.declared.Answer.{Answer}
 use Rattle.policy.specs.declared.Answer.the-variants.{Length, Refused}
 use Rattle.policy.proofs.Answers.{test-accepted}
-use Rattle.records.specs.Calls.{readingOf, writingOf, answered, RecordRead, RecordWritten}
+use Rattle.records.specs.Calls.{readingOf, writingOf, RecordRead, RecordWritten}
+use Rattle.wire.specs.Buffers.{answered, written, lengthOf}
 use Rattle.sheet.specs.Orders.{orderBytes, orderIn, gateSize, ownSize, orderSize}
 use Rattle.orders.specs.Split.{splitOf, Split, firstBytes}
 use Rattle.orders.specs.Join.{joinOf, Join}
-use Rattle.groups.specs.Worked.{workSize}
-use Rattle.planner.specs.Calls.{roomFor, Call, checkOf, yes, Checks}
+use Rattle.planner.specs.Calls.{roomFor, Call, checkOf, Checks}
 use Rattle.planner.proofs.Lengths.{filled-within, call-length}
 use Rattle.foldplover.specs.Coded.{Plain}
 use Rattle.wire.specs.Lists.{listBytes}
-use Rattle.wire.specs.Buffers.{written, lengthOf}
 
 -- A call that writes into a buffer of a size below every refusal's number.
 pub call-plain :
@@ -33,20 +31,14 @@ pub call-plain :
 call-plain bytes size b x out (Length n) c e h = let k = call-length bytes size b x out c e n refl in omega arith
 call-plain bytes size b x out (Refused f) c e h = tt
 
--- Check.
-yes-plain : (x : Outcome Pair) → Plain (yes x)
-unfolding yes
-yes-plain (accepted p) = omega arith
-yes-plain (refused k) = tt
-
-pub check-plain : {s w w′ : List ℕ} {q : Answer} → Checks s w q w′ → Plain (said q)
-check-plain {s = s} {w = w} x = subst Plain (sym (x .answer)) (yes-plain (test (roomFor (workSize limits) w) 1 (checkOf limits s)))
-
--- The record calls.
-answered-plain : (n : ℕ) → n < refusalBase → (x : Outcome Rule) → Plain (answered n x)
+-- Check and the record calls, which answer a fixed number.
+answered-plain : {A : Type 0} (n : ℕ) → n < refusalBase → (x : Outcome A) → Plain (answered n x)
 unfolding answered
 answered-plain n h (accepted r) = h
 answered-plain n h (refused k) = tt
+
+pub check-plain : {s w w′ : List ℕ} {q : Answer} → Checks s w q w′ → Plain (said q)
+check-plain {s = s} {w = w} x = subst Plain (sym (x .answer)) (answered-plain 0 (omega arith) (test (roomFor (workSize limits) w) 1 (checkOf limits s)))
 
 pub read-plain : {s ns ns′ : List ℕ} {q : Answer} → RecordRead s ns q ns′ → Plain (said q)
 read-plain {s = s} {ns = ns} x = subst Plain (sym (x .answer)) (answered-plain 0 (omega arith) (readingOf s ns))

@@ -10,11 +10,12 @@ use lib.Seq.{drop-drop, drop-set-lt, getD-drop, set-getD}
 use borrow.Author.Tests.{lt-ltb, le-ltb}
 use Rattle.policy.specs.Fields.{fields}
 use Rattle.policy.specs.Ranges.{Range, range, Region}
-use Rattle.policy.specs.Values.{ranges, rangeAt, partBelow, partAbove}
+use Rattle.policy.specs.Values.{ranges}
+use Rattle.policy.specs.Steps.{rangeAt, partBelow, partAbove}
 use Rattle.policy.specs.Cut.{shared, cut}
 use Rattle.policy.proofs.Values.{ranges-length, ranges-at}
 use Rattle.policy.proofs.Rest.{rest, rest-all, rest-above, rest-below, rest-meets, rest-within, rest-done}
-use Rattle.groups.specs.Stores.{Stored}
+use Rattle.groups.specs.Steps.{Stored}
 use Rattle.groups.proofs.Stores.{length-store, stored-then, stored-none}
 
 -- The parts of a field, as lists of one box or none.

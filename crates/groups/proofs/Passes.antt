@@ -13,7 +13,7 @@ use Rattle.policy.specs.Cut.{cut, cutEach}
 use Rattle.policy.proofs.Cuts.{cut-few}
 use Rattle.wire.specs.Records.{boxIn, boxesIn}
 use Rattle.wire.proofs.Records.{fits-length, boxesIn-length, box-in-place}
-use Rattle.groups.specs.Stores.{Stored, Stands, Untouched}
+use Rattle.groups.specs.Steps.{Stored, Stands, Untouched}
 use Rattle.groups.proofs.Stores.{length-store, take-store, stored-then, stored-none}
 use Rattle.groups.proofs.Pieces.{boxes-next, fits-at, piece-alike}
 

@@ -13,7 +13,7 @@ use Rattle.policy.specs.Ranges.{Region}
 use Rattle.policy.specs.Rules.{Proper}
 use Rattle.wire.specs.Records.{boxBytes, boxIn, boxesBytes, boxesIn, Fits}
 use Rattle.wire.proofs.Records.{proper-fits, boxBytes-length, box-back, boxesBytes-length, boxesIn-length, box-in-place}
-use Rattle.groups.specs.Stores.{Stands}
+use Rattle.groups.specs.Steps.{Stands}
 
 drop-take : {A : Type 0} (n m : ℕ) (l : List A) → drop n (take (n + m) l) ≡ take m (drop n l)
 drop-take zero m l = let e : 0 + m ≡ m = omega arith in ap (λ (k : ℕ). take k l) e

@@ -14,7 +14,7 @@ use Rattle.policy.specs.Ranges.{Region}
 use Rattle.wire.specs.Records.{boxBytes, boxesBytes, Fits}
 use Rattle.wire.proofs.Records.{boxBytes-length}
 use Rattle.lists.proofs.Lists.{sets-append, take-sets, drop-sets}
-use Rattle.groups.specs.Stores.{places, storeOne, store, Stored}
+use Rattle.groups.specs.Steps.{places, storeOne, store, Stored}
 
 module _ (half : ℕ) where
   store-append : (work : List ℕ) (m : ℕ) (l k : List Region) → store half work m (l ++ k) ≡ store half (store half work m l) (m + length l) k

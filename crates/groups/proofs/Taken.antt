@@ -17,8 +17,8 @@ use Rattle.policy.proofs.Moves.{proper-whole}
 use Rattle.policy.proofs.Proper.{proper-piece}
 use Rattle.wire.specs.Records.{boxesBytes, boxesIn, Fits}
 use Rattle.wire.proofs.Records.{boxesBytes-length, boxesIn-length, boxes-back}
-use Rattle.wire.specs.Buffers.{copiedDown}
-use Rattle.groups.specs.Stores.{places, Stored, Stands, Untouched, Taken}
+use Rattle.wire.specs.Steps.{copiedDown}
+use Rattle.groups.specs.Steps.{places, Stored, Stands, Untouched, Taken}
 use Rattle.groups.proofs.Stores.{take-store, drop-store, store-fits}
 use Rattle.groups.proofs.Pieces.{boxes-bytes, proper-all, bytes-before}
 

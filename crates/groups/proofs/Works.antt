@@ -11,7 +11,7 @@ use borrow.Author.Tests.{lt-ltb, le-ltb, eq-eqb, ne-eqb}
 use Rattle.lists.specs.Lists.{Each, every}
 use Rattle.lists.proofs.Tests.{and-true}
 use Rattle.lists.proofs.Lists.{drop-sets}
-use Rattle.policy.specs.Fields.{widths, recordSize, boxSize, limits}
+use Rattle.policy.specs.Fields.{widths, recordSize, boxSize, limits, workSize}
 use Rattle.policy.specs.Ranges.{Region}
 use Rattle.policy.specs.Rules.{Rule, rule, Proper, sound, allowsIn}
 use Rattle.policy.specs.Cut.{cutEach, group}
@@ -19,9 +19,8 @@ use Rattle.policy.specs.Move.{over}
 use Rattle.policy.proofs.Moves.{rule-proper}
 use Rattle.wire.specs.Records.{boxBytes, boxIn, boxesBytes, boxesIn, ruleIn, rulesIn, Fits}
 use Rattle.wire.proofs.Records.{proper-fits, boxBytes-length, box-back, boxesIn-length, rulesIn-length, rule-in-place}
-use Rattle.groups.specs.Worked.{workSize, startAt, allowsAt, workedOf, GroupStands, WorkedOut}
+use Rattle.groups.specs.Steps.{startAt, allowsAt, workedOf, GroupStands, WorkedOut, places, Stands, Taken}
 use Rattle.groups.specs.declared.Worked.the-variants.{Boxes, TooMany}
-use Rattle.groups.specs.Stores.{places, Stands, Taken}
 use Rattle.groups.proofs.Taken.{cutEach-proper}
 
 -- A rule of a list that number 4 lets pass.

@@ -12,14 +12,14 @@ ghost use Prim.Native.Nat.{_+_, _*_, _≤_, _<_, min, max};
 ghost use lib.ListN.{length, take, drop, set};
 ghost use lib.Seq.{sets};
 ghost use Rattle.lists.specs.Lists.{every};
-ghost use Rattle.policy.specs.Fields.{fields, boxSize, recordSize, limits};
+ghost use Rattle.policy.specs.Fields.{fields, boxSize, recordSize, limits, workSize};
 ghost use Rattle.policy.specs.Ranges.{range};
 ghost use Rattle.policy.specs.Rules.{sound, Proper};
-ghost use Rattle.policy.specs.Values.{regionOf, rangeAt, partBelow, partAbove};
+ghost use Rattle.policy.specs.Values.{regionOf};
+ghost use Rattle.policy.specs.Steps.{rangeAt, partBelow, partAbove};
 ghost use Rattle.policy.specs.Cut.{shared, cut, cutEach};
 ghost use Rattle.wire.specs.Records.{boxBytes, boxIn, boxesIn, rulesIn};
-ghost use Rattle.groups.specs.Worked.{WorkedOut, workSize};
-ghost use Rattle.groups.specs.Stores.{places, most, Stored, Stands, Untouched, Taken};
+ghost use Rattle.groups.specs.Steps.{WorkedOut, places, most, Stored, Stands, Untouched, Taken};
 
 pub const WORK_BYTES: usize = 2 * PIECES_MOST * BOX_BYTES;
 

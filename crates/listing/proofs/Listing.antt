@@ -9,7 +9,7 @@ use lib.Seq.{sets, drop-drop, length-sets, length-take-le}
 use Rattle.lists.specs.Lists.{Each}
 use Rattle.lists.proofs.Lists.{append-none, sets-append}
 use Rattle.lists.proofs.Parts.{copied-sets}
-use Rattle.policy.specs.Fields.{boxSize, countSize, recordSize, actionSize, limits}
+use Rattle.policy.specs.Fields.{boxSize, countSize, recordSize, actionSize, limits, workSize}
 use Rattle.policy.specs.Ranges.{Region}
 use Rattle.policy.specs.Rules.{Rule, rule, full, denies}
 use Rattle.policy.specs.Refusals.{accepted}
@@ -22,15 +22,14 @@ use Rattle.wire.specs.Buffers.{zeroed, filled, written, lengthOf}
 use Rattle.wire.proofs.Numbers.{numberBytes-length, bytes-drop}
 use Rattle.wire.proofs.Records.{records-append, box-written-back, boxesIn-length, rulesIn-length, records-written-back}
 use Rattle.wire.proofs.Buffers.{filled-is, filled-front}
-use Rattle.groups.specs.Worked.{workSize}
 use Rattle.sheet.specs.Pairs.{groupSize, groupBoxes}
-use Rattle.sheet.specs.Readers.{rulesOf, groupsFrom, pairOf, pairHeard, PairPlace}
+use Rattle.sheet.specs.Steps.{rulesOf, groupsFrom, pairOf, pairHeard, PairPlace, boxCount}
 use Rattle.sheet.specs.declared.PairParts.the-variants as P
 use Rattle.wire.proofs.Lists.{listBytes-length}
 use Rattle.sheet.proofs.Orders.{faultless-fits}
 use Rattle.planner.specs.Calls.{checkOf, Call, cellBytes, gateBytes, gateListSize}
 use Rattle.checking.specs.Steps.{CheckRead}
-use Rattle.listing.specs.Steps.{boxRecords, boxCount, groupRecords, ListPut}
+use Rattle.listing.specs.Steps.{boxRecords, groupRecords, ListPut}
 use Rattle.planner.proofs.Good.{denials-length, gate-list-good}
 use Rattle.planner.proofs.Calls.{call-done}
 use Rattle.planner.proofs.Finished.{refuses}

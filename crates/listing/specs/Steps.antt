@@ -6,16 +6,13 @@ use lib.ListN.{length}
 use Rattle.policy.specs.Move.{together, denials}
 use Rattle.wire.specs.Records.{recordsBytes, boxesIn}
 use Rattle.wire.specs.Buffers.{filled}
-use Rattle.sheet.specs.Readers.{groupsFrom}
+use Rattle.sheet.specs.Steps.{groupsFrom}
 
 -- The deny records of n boxes, which begin the bytes.
 abbrev pub boxRecords : ℕ → List ℕ → List ℕ
 boxRecords n s = recordsBytes (denials (boxesIn n s))
 
--- Of n groups, which begin the bytes: how many boxes they have together, and their deny records.
-abbrev pub boxCount : ℕ → List ℕ → ℕ
-boxCount n s = length (together (groupsFrom n s))
-
+-- Those of n groups, which begin the bytes.
 abbrev pub groupRecords : ℕ → List ℕ → List ℕ
 groupRecords n s = recordsBytes (denials (together (groupsFrom n s)))
 

@@ -18,9 +18,9 @@ ghost use lib.Seq.{sets};
 ghost use Rattle.policy.specs.Fields.{boxSize, countSize, recordSize};
 ghost use Rattle.policy.specs.Rules.{rule, full};
 ghost use Rattle.policy.specs.Values.{ruleOf};
-ghost use Rattle.sheet.specs.Readers.{pairOf, PairPlace};
+ghost use Rattle.sheet.specs.Steps.{pairOf, PairPlace, boxCount};
 ghost use Rattle.planner.specs.Calls.{Lists, cellBytes, cellListSize, gateBytes, gateListSize};
-ghost use Rattle.listing.specs.Steps.{boxRecords, boxCount, groupRecords, ListPut};
+ghost use Rattle.listing.specs.Steps.{boxRecords, groupRecords, ListPut};
 
 // What the cell list and the gate list are lent at least.
 pub const CELL_LIST_BYTES: usize = COUNT_BYTES + RECORD_BYTES * TOTAL_MOST;

@@ -19,7 +19,7 @@ use Rattle.wire.specs.Buffers.{filled, written, lengthOf}
 use Rattle.sheet.specs.Orders.{orderBytes, orderSize}
 use Rattle.wire.proofs.Buffers.{refusal-leaves}
 use Rattle.orders.specs.Join.{Join, joinOf}
-use Rattle.sheet.specs.Readers.{ListPlace, ListPlaced, ListRead}
+use Rattle.sheet.specs.Steps.{ListPlace, ListPlaced, ListRead}
 use Rattle.sheet.specs.declared.Section.{Section}
 use Rattle.sheet.specs.declared.Section.the-variants as S
 use Rattle.sheet.proofs.Parts.{bytes-of, part-from}

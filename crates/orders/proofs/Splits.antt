@@ -19,7 +19,7 @@ use Rattle.wire.specs.Buffers.{filled, written, lengthOf}
 use Rattle.sheet.specs.Orders.{orderIn, gateSize, ownSize}
 use Rattle.wire.proofs.Buffers.{refusal-leaves}
 use Rattle.orders.specs.Split.{Split, splitOf, firstBytes, secondBytes}
-use Rattle.sheet.specs.Readers.{ListsPlace, OrderPlaced, OrderRead}
+use Rattle.sheet.specs.Steps.{ListsPlace, OrderPlaced, OrderRead}
 use Rattle.sheet.specs.declared.OrderParts.{OrderParts}
 use Rattle.sheet.specs.declared.OrderParts.the-variants as O
 use Rattle.sheet.proofs.Parts.{bytes-of, part-from}

@@ -7,14 +7,13 @@ use Prim.Native.Nat.{ℕ, _≤_, _<_}
 use lib.ListN.{length, drop}
 use borrow.Author.Tests.{le-leb, lt-leb}
 use Rattle.lists.proofs.Tests.{and-both}
-use Rattle.policy.specs.Fields.{limits}
+use Rattle.policy.specs.Fields.{limits, workSize}
 use Rattle.policy.specs.Refusals.{Outcome}
 use Rattle.policy.specs.declared.Answer.{Answer}
 use Rattle.policy.specs.declared.Answer.the-variants.{Refused}
 use Rattle.policy.specs.declared.Refusal.the-variants.{BufferShort}
 use Rattle.policy.proofs.Answers.{said-once}
 use Rattle.wire.specs.Buffers.{zeroed, written, lengthOf}
-use Rattle.groups.specs.Worked.{workSize}
 use Rattle.planner.specs.Calls.{roomFor, workAfter, Call}
 use Rattle.planner.specs.Steps.{Writes}
 

@@ -1,13 +1,14 @@
--- Demands 2 and 3 hold at the level of bytes. Assumes nothing.
+-- Demands 2 and 3 of bytes, over the functions that the calls' statements name, for any limits that are small enough.
+-- Assumes nothing.
 use mathlib.Core.Path.{_≡_, refl, ap, sym, subst, _∙_}
-use mathlib.Core.List.{List, [], _∷_, _++_}
+use mathlib.Core.List.{List, _++_}
 use mathlib.Core.Bool.{Bool, true, false, cond, _&&_}
 use Prim.Native.Nat.{ℕ, zero, suc, _+_, _<_, _≤_}
 use native.Mathlib.Omega.{arith}
 use lib.Dec.{leb, ltb, eqb}
 use lib.ListN.{length, take, drop, length-append, length-take, length-drop}
 use lib.Seq.{take-at}
-use borrow.Author.Tests.{le-leb, leb-true, le-ltb, eqb-true, eqb-false, eq-eqb, ne-eqb}
+use borrow.Author.Tests.{le-leb, le-ltb, eqb-true, eqb-false, eq-eqb, ne-eqb}
 use Rattle.lists.proofs.Tests.{and-true}
 use Rattle.lists.specs.Lists.{Each}
 use Rattle.lists.proofs.Lists.{each-append, each-take, each-drop}
@@ -16,16 +17,16 @@ use Rattle.policy.specs.Rules.{Rule}
 use Rattle.policy.specs.Refusals.{Outcome, accepted, refused, andThen, given, unless, orElse}
 use Rattle.policy.specs.Move.{slotsOf, together, work, room, Order, Pair, moved, gateList, cellList, listRefusal, moveRefusal}
 use Rattle.policy.specs.Check.{checkRefusal}
-use Rattle.policy.specs.Edit.{Kind, out, put, changed, hasPlace, Edit, newOrder, placeFound, edited, changeRefusal, allDone}
+use Rattle.policy.specs.Edit.{Kind, out, put, changed, hasPlace, newOrder, placeFound, edited, changeRefusal}
 use Rattle.policy.proofs.Answers.{test-accepted, unless-accepted}
 use Rattle.policy.proofs.Numbers.{orElse-zero, orElse-both, orElse-assoc}
-use Rattle.policy.proofs.Edits.{Accepted, move-accepted, kept-boxes, edit-as-fresh, change-refuses-as-fresh}
-use Rattle.policy.specs.Demands.{DenyOnly}
+use Rattle.policy.proofs.Edits.{Accepted, list-accepted, move-accepted, kept-boxes, edit-as-fresh, change-refuses-as-fresh}
+use Rattle.policy.specs.Demands.{DenyOnly, OthersKept}
 use Rattle.policy.proofs.Kept.{others-kept}
 use Rattle.policy.proofs.Checks.{checked-is-moved, moved-is-checked}
-use Rattle.policy.proofs.Demands.{move-holds}
+use Rattle.policy.proofs.Moves.{moved-pair-forwards, boxes-cover-what-the-gate-dropped, cell-first}
 use Rattle.wire.specs.Numbers.{Byte}
-use Rattle.wire.specs.Buffers.{filled, written}
+use Rattle.wire.specs.Buffers.{filled}
 use Rattle.wire.proofs.Buffers.{filled-over}
 use Rattle.wire.proofs.Records.{RuleFits, ruleIn-fits}
 use Rattle.sheet.specs.Orders.{orderIn, orderBytes}
@@ -33,10 +34,10 @@ use Rattle.sheet.specs.Pairs.{pairIn, pairBytes, pairSize}
 use Rattle.sheet.proofs.Outcomes.{through, faultless}
 use Rattle.sheet.proofs.Orders.{ListFits, faultless-fits, order-back, order-faultless, order-written-back, list-back}
 use Rattle.sheet.proofs.Pairs.{pair-back, pair-good, pair-written-back}
-use Rattle.sheet.proofs.Lengths.{untrue-length-refused}
-use Rattle.planner.specs.Calls.{roomFor, planOf, moveOf, checkedOf, checkOf}
-use Rattle.planner.specs.Edits.{Asked, kindOf, editOf, wholeRecord, changeOf, editedOf, lentFor}
-use Rattle.planner.specs.Demands.{DemandTwo, Small, Held, held, Told, heldAfter, edits, runCalls, ifTaken, taken, DemandThree, EditAsFresh, OthersAsBefore, CheckIsMove}
+use Rattle.sheet.proofs.Lengths.{other-length-refused}
+use Rattle.planner.specs.Calls.{planOf, moveOf, checkedOf, checkOf}
+use Rattle.planner.specs.Edits.{Asked, kindOf, editOf, wholeRecord, changeOf, editedOf}
+use Rattle.planner.specs.Theorems.{held, DemandTwo, CheckIsMove, OthersAsBefore}
 use Rattle.planner.specs.declared.Change.{Change}
 use Rattle.planner.specs.declared.Change.the-variants.{Insert, Delete, Replace}
 use Rattle.planner.proofs.Good.{moved-good, pair-short, gate-list-good, cell-list-good}
@@ -64,6 +65,19 @@ changed-fits i c s l w b f n =
           (each-append RuleFits (put k) (drop (out k) (drop i l)) (p .0) (each-drop RuleFits (out k) (drop i l) (each-drop RuleFits i l f)));
       count = rw (length-append, length-append, length-take, length-drop, length-drop) (omega arith);
     }
+
+-- What is asked of limits: counts fit in two bytes, also with one rule more, and the own rules, at least one, have room in the
+-- total.
+pub record Small (lim : Limits) : Type 0 where
+  pub gate : lim .gate < 65535
+  pub own : lim .own < 65535
+  pub total : lim .total < 65536
+  pub one : 1 ≤ lim .total
+  pub share : lim .own ≤ lim .total
+
+-- The scope's own limits are such.
+pub limits-small : Small limits
+limits-small = record { gate = omega arith; own = omega arith; total = omega arith; one = omega arith; share = omega arith }
 
 module _ (lim : Limits) (small : Small lim) where
   -- a move of the bytes of lists that fit them answers as the move of the lists
@@ -111,7 +125,7 @@ module _ (lim : Limits) (small : Small lim) where
   moved-demand-two : (s : List ℕ) (o : Order) → Each Byte s → orderIn lim s ≡ accepted o → moveRefusal lim o ≡ 0 → DemandTwo lim s o (moved o)
   unfolding checkOf checkedOf
   moved-demand-two s o b e h =
-      let m = move-holds lim o h in
+      let f = list-accepted (lim .gate) (o .gate) (move-accepted lim o h .gate) in
       let k = sheet-back o h in
       let g = gate-list-good lim (moved o) (small .one) in
       let c = cell-list-good lim o h in
@@ -123,9 +137,9 @@ module _ (lim : Limits) (small : Small lim) where
         checks = rw k (unless-none (checkRefusal lim (moved o)) (moved o) (moved-is-checked lim o h));
         gate = list-back (lim .total) (gateList (moved o)) (faultless-fits (lim .total) (gateList (moved o)) (small .total) g) ∙ unless-none _ _ g;
         cell = list-back (lim .total) (cellList (moved o)) (faultless-fits (lim .total) (cellList (moved o)) (small .total) c) ∙ unless-none _ _ c;
-        forwarded = m .forwarded;
-        boxes = m .boxes;
-        cell-first = m .cell-first;
+        forwarded = λ q. moved-pair-forwards o q (f .0) (f .1);
+        boxes = λ q. boxes-cover-what-the-gate-dropped o q (f .0);
+        cell-first = λ q. cell-first o q (f .0);
       }
 
   -- Demand 2.
@@ -136,7 +150,7 @@ module _ (lim : Limits) (small : Small lim) where
 
   -- the sheet that stands in a buffer is read back, and writing another over it leaves nothing of it
   held-taken : (out : List ℕ) (o : Order) → moveRefusal lim o ≡ 0 → take (length (pairBytes (moved o))) (held lim out (moved o) .buffer) ≡ pairBytes (moved o)
-  unfolding written filled
+  unfolding filled
   held-taken out o h = take-at (pairBytes (moved o)) _ (length (pairBytes (moved o))) refl
 
   edits-moved : (out : List ℕ) (o : Order) (a : Asked) → moveRefusal lim o ≡ 0
@@ -145,7 +159,6 @@ module _ (lim : Limits) (small : Small lim) where
   edits-moved out o a h = rw (held-taken out o h, sheet-back o h)
 
   held-over : (out : List ℕ) (o : Order) (p : Pair) → moveRefusal lim o ≡ 0 → held lim (held lim out (moved o) .buffer) p ≡ held lim out p
-  unfolding written
   held-over out o p h = λ t. record { buffer = filled-over (pairSize lim) out (pairBytes (moved o)) (pairBytes p) (sheet-short o h) t; used = length (pairBytes p) }
 
   -- what an accepted change of a moved pair is
@@ -158,61 +171,38 @@ module _ (lim : Limits) (small : Small lim) where
       let u = unless-accepted (changeRefusal lim (editOf a) (moved o)) (g .1) in
       (sym (change-refuses-as-fresh lim (editOf a) o h) ∙ u .0, sym (u .1) ∙ edit-as-fresh (editOf a) o)
 
-  -- Demand 3, a run: what is left of it leads from any accepted move to the accepted move of the edited lists.
-  abbrev pub Ran : List Edit → Held → List ℕ → Order → Type 0
-  Ran es h out o = (moveRefusal lim (allDone es o) ≡ 0) × (h ≡ held lim out (moved (allDone es o)))
-
-  -- an accepted edit was told the true length
-  told-true : (out : List ℕ) (o : Order) (n : ℕ) (a : Asked) (p : Pair) → moveRefusal lim o ≡ 0 → n ≤ length (held lim out (moved o) .buffer)
-      → editedOf lim (take n (held lim out (moved o) .buffer)) a ≡ accepted p → n ≡ held lim out (moved o) .used
+  -- told any other length than the sheet's, reading refuses
+  pub other-length : (out : List ℕ) (o : Order) (n : ℕ) (a : Asked) → moveRefusal lim o ≡ 0 → n ≤ length (held lim out (moved o) .buffer)
+      → (n ≡ held lim out (moved o) .used → ⊥) → editedOf lim (take n (held lim out (moved o) .buffer)) a ≡ refused 3
   unfolding editedOf
-  told-true out o n a p h k e = go (eqb n (length (pairBytes (moved o)))) refl
+  other-length out o n a h k d =
+      let x = other-length-refused lim (pairBytes (moved o)) (moved o) (held lim out (moved o) .buffer) n (sheet-back o h) (held-taken out o h) k d in
+      rw x refl
+
+  -- Demand 3, an accepted edit: it was told the sheet's own length, and leaves the accepted move of the edited lists.
+  pub edit-done : (out : List ℕ) (o : Order) (n : ℕ) (a : Asked) (p : Pair) → moveRefusal lim o ≡ 0 → n ≤ length (held lim out (moved o) .buffer)
+      → editedOf lim (take n (held lim out (moved o) .buffer)) a ≡ accepted p
+      → (moveRefusal lim (newOrder (editOf a) o) ≡ 0) × (held lim (held lim out (moved o) .buffer) p ≡ held lim out (moved (newOrder (editOf a) o)))
+  edit-done out o n a p h k e = go (eqb n (length (pairBytes (moved o)))) refl
     where
-      go : (t : Bool) → eqb n (length (pairBytes (moved o))) ≡ t → n ≡ length (pairBytes (moved o))
-      go true i = eqb-true n _ i
+      go : (t : Bool) → eqb n (length (pairBytes (moved o))) ≡ t
+          → (moveRefusal lim (newOrder (editOf a) o) ≡ 0) × (held lim (held lim out (moved o) .buffer) p ≡ held lim out (moved (newOrder (editOf a) o)))
+      go true i =
+          let same = ap (λ (m : ℕ). editedOf lim (take m (held lim out (moved o) .buffer)) a) (sym (eqb-true n _ i)) in
+          let c = change-accepted a o p h (sym (edits-moved out o a h) ∙ (same ∙ e)) in
+          (c .0, held-over out o p h ∙ ap (held lim out) (c .1))
       go false i =
-          let b : List ℕ = held lim out (moved o) .buffer in
-          let x : pairIn lim (take n b) ≡ refused 3 = untrue-length-refused lim (pairBytes (moved o)) (moved o) b n (sheet-back o h) (held-taken out o h) k (eqb-false n _ i) in
-          let z : _≡_ {A = ℕ} 0 1 = cc (sym (ap (λ (y : Outcome Pair). andThen y (changeOf lim a)) x) ∙ e) in
+          let z : _≡_ {A = ℕ} 0 1 = cc (sym (other-length out o n a h k (eqb-false n _ i)) ∙ e) in
           absurd (omega arith)
-
-  pub ran : (l : List Told) (out : List ℕ) (o : Order) → moveRefusal lim o ≡ 0 → Ran (taken lim l (held lim out (moved o))) (runCalls lim l (held lim out (moved o))) out o
-  unfolding runCalls taken allDone heldAfter
-  ran [] out o h = (h, refl)
-  ran (t ∷ l) out o h = go (edits lim t (first .buffer)) refl (ran l out o h) (λ o′ h′. ran l out o′ h′)
-    where
-      first : Held
-      first = held lim out (moved o)
-
-      a : Asked
-      a = t .asked
-
-      go : (x : Outcome Pair) → edits lim t (first .buffer) ≡ x → Ran (taken lim l first) (runCalls lim l first) out o
-          → ((o′ : Order) → moveRefusal lim o′ ≡ 0 → Ran (taken lim l (held lim out (moved o′))) (runCalls lim l (held lim out (moved o′))) out o′)
-          → Ran (ifTaken x (editOf a) (taken lim l (heldAfter lim first x))) (runCalls lim l (heldAfter lim first x)) out o
-      go (refused n) e same done = same
-      go (accepted p) e same done =
-          let y = test-accepted (lentFor lim (first .buffer) (t .used) (t .work)) 1 _ e in
-          let k = and-true (leb (t .used) (length (first .buffer))) _ (and-true (roomFor (pairSize lim) (first .buffer)) _ (y .0) .1) in
-          let n = told-true out o (t .used) a p h (leb-true (t .used) (length (first .buffer)) (k .0)) (y .1) in
-          let c = change-accepted a o p h (sym (edits-moved out o a h) ∙ (ap (λ (m : ℕ). editedOf lim (take m (first .buffer)) a) (sym n) ∙ y .1)) in
-          let f : held lim (first .buffer) p ≡ held lim out (moved (newOrder (editOf a) o)) = held-over out o p h ∙ ap (held lim out) (c .1) in
-          rw f (done (newOrder (editOf a) o) (c .0))
-
-  pub demand-three : (out : List ℕ) (o : Order) (l : List Told) → moveRefusal lim o ≡ 0
-      → DemandThree lim out o l (allDone (taken lim l (held lim out (moved o))) o)
-  demand-three out o l h =
-      let r = ran l out o h in
-      record { lists = refl; accepts = move-again _ (r .0); sheet = r .1 }
 
   -- Demand 3, one edit with a place that exists and a whole record.
   pub edit-as-fresh-move : (out : List ℕ) (o : Order) (a : Asked) → moveRefusal lim o ≡ 0 → a .list ≤ 1 → placeFound (editOf a) o ≡ true
-      → wholeRecord (a .change) (a .bytes) ≡ true → Each Byte (a .bytes) → EditAsFresh lim out o a
+      → wholeRecord (a .change) (a .bytes) ≡ true → Each Byte (a .bytes)
+      → editedOf lim (take (held lim out (moved o) .used) (held lim out (moved o) .buffer)) a ≡ moveOf lim (orderBytes (newOrder (editOf a) o))
   unfolding changeOf
-  edit-as-fresh-move out o a h l p w b = record {
-    same = edits-moved out o a h
-        ∙ rw (le-leb (a .list) 1 l, p, w, change-refuses-as-fresh lim (editOf a) o h, edit-as-fresh (editOf a) o) (sym (move-back (newOrder (editOf a) o) (go (eqb (a .list) 0) .0) (go (eqb (a .list) 0) .1)));
-  }
+  edit-as-fresh-move out o a h l p w b =
+      edits-moved out o a h
+      ∙ rw (le-leb (a .list) 1 l, p, w, change-refuses-as-fresh lim (editOf a) o h, edit-as-fresh (editOf a) o) (sym (move-back (newOrder (editOf a) o) (go (eqb (a .list) 0) .0) (go (eqb (a .list) 0) .1)))
     where
       f : ListFits (o .gate) × ListFits (o .own)
       f = move-fits o h
@@ -227,32 +217,38 @@ module _ (lim : Limits) (small : Small lim) where
       go true = (new (o .gate) (f .0 .rules) (omega (arith, faultless (lim .gate) (o .gate) (m .gate), small .gate)), f .1)
       go false = (f .0, new (o .own) (f .1 .rules) (omega (arith, faultless (lim .own) (o .own) (m .own), small .own)))
 
-  pub edit-keeps-others : (s : List ℕ) (a : Asked) (p q : Pair) → pairIn lim s ≡ accepted p → editedOf lim s a ≡ accepted q → a .list ≡ 0
-      → DenyOnly (a .place) (kindOf (a .change) (a .bytes)) (p .order .gate) → OthersAsBefore a p q
+  -- Demand 3, other rules' boxes: what an accepted edit of bytes is.
+  edited-is : (s : List ℕ) (a : Asked) (p q : Pair) → pairIn lim s ≡ accepted p → editedOf lim s a ≡ accepted q
+      → (placeFound (editOf a) (p .order) ≡ true) × (edited (editOf a) p ≡ q)
   unfolding editedOf changeOf
-  edit-keeps-others s a p q r e g d =
-      let k : Kind = kindOf (a .change) (a .bytes) in
-      let i : eqb (a .list) 0 ≡ true = eq-eqb (a .list) 0 g in
+  edited-is s a p q r e =
       let f = test-accepted (leb (a .list) 1 && placeFound (editOf a) (p .order)) 9 _ (rw r at e) in
       let w = test-accepted (wholeRecord (a .change) (a .bytes)) 3 _ (f .1) in
-      let u = unless-accepted (changeRefusal lim (editOf a) p) (w .1) in
-      let h = and-true (leb (a .list) 1) (placeFound (editOf a) (p .order)) (f .0) in
-      record {
-        pair = sym (u .1) ∙ ap (λ (t : Bool). edited (record { inGate = t; place = a .place; kind = k }) p) i;
-        others = others-kept (a .place) k p (sym (ap (λ (t : Bool). hasPlace (a .place) k (cond t (p .order .gate) (p .order .own))) i) ∙ h .1) (pair-good lim s p r (small .share) .counted) d;
-      }
+      (and-true (leb (a .list) 1) (placeFound (editOf a) (p .order)) (f .0) .1, unless-accepted (changeRefusal lim (editOf a) p) (w .1) .1)
 
-  -- An edit of B leaves every group as it was, on stale pairs too.
-  pub own-edit-keeps-groups : (s : List ℕ) (a : Asked) (p q : Pair) → pairIn lim s ≡ accepted p → editedOf lim s a ≡ accepted q → a .list ≡ 1 → q .groups ≡ p .groups
-  unfolding editedOf changeOf
-  own-edit-keeps-groups s a p q r e g =
-      let i : eqb (a .list) 0 ≡ false = ne-eqb (a .list) 0 (λ z. omega arith) in
-      let f = test-accepted (leb (a .list) 1 && placeFound (editOf a) (p .order)) 9 _ (rw r at e) in
-      let w = test-accepted (wholeRecord (a .change) (a .bytes)) 3 _ (f .1) in
-      let u = unless-accepted (changeRefusal lim (editOf a) p) (w .1) in
-      let k : Kind = kindOf (a .change) (a .bytes) in
-      (λ t. sym (u .1) t .groups)
-      ∙ (ap (λ (t : Bool). edited (record { inGate = t; place = a .place; kind = k }) p .groups) i ∙ kept-boxes (p .groups))
+  module _ (s : List ℕ) (a : Asked) (p q : Pair) (r : pairIn lim s ≡ accepted p) (e : editedOf lim s a ≡ accepted q) where
+    abbrev kind : Kind
+    kind = kindOf (a .change) (a .bytes)
+
+    abbrev in-list : Bool → Pair
+    in-list t = edited (record { inGate = t; place = a .place; kind = kind }) p
+
+    is : edited (editOf a) p ≡ q
+    is = edited-is s a p q r e .1
+
+    gate-edit-keeps-others : a .list ≡ 0 → DenyOnly (a .place) kind (p .order .gate) → OthersKept (a .place) kind p q
+    gate-edit-keeps-others g d =
+        let i : eqb (a .list) 0 ≡ true = eq-eqb (a .list) 0 g in
+        let place = sym (ap (λ (t : Bool). hasPlace (a .place) kind (cond t (p .order .gate) (p .order .own))) i) ∙ edited-is s a p q r e .0 in
+        subst (λ (x : Pair). OthersKept (a .place) kind p x) (sym (ap in-list i) ∙ is) (others-kept (a .place) kind p place (pair-good lim s p r (small .share) .counted) d)
+
+    own-edit-keeps-groups : a .list ≡ 1 → q .groups ≡ p .groups
+    own-edit-keeps-groups g =
+        let i : eqb (a .list) 0 ≡ false = ne-eqb (a .list) 0 (λ z. omega arith) in
+        (λ t. sym is t .groups) ∙ (ap (λ (t : Bool). in-list t .groups) i ∙ kept-boxes (p .groups))
+
+    pub others-as-before : OthersAsBefore p q a
+    others-as-before = record { lists = λ t. sym is t .order; gate = gate-edit-keeps-others; own = own-edit-keeps-groups }
 
   -- What check accepts is what a move of its lists writes.
   pub check-is-move : (s : List ℕ) (p : Pair) → Each Byte s → checkOf lim s ≡ accepted p → CheckIsMove lim s p
@@ -272,7 +268,3 @@ module _ (lim : Limits) (small : Small lim) where
       let none : moveRefusal lim o ≡ 0 = orElse-both (listRefusal (lim .gate) (o .gate)) _ (g .gate) (orElse-both (listRefusal (lim .own) (o .own)) _ (g .own)
       (orElse-both (work lim (slotsOf o)) _ (n .0) (ap (λ (y : Bool). given y 7) l))) in
       record { sheet = pair-written-back lim s p r b; moves = move-again o none ∙ ap accepted (sym m) }
-
--- The scope's own limits are such.
-pub limits-small : Small limits
-limits-small = record { gate = omega arith; own = omega arith; total = omega arith; one = omega arith; share = omega arith }

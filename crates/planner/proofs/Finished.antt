@@ -9,7 +9,7 @@ use lib.Seq.{drop-at, take-add, take-take, length-take-le}
 use borrow.Author.Tests.{lt-ltb, le-ltb}
 use Rattle.lists.specs.Lists.{Each, every}
 use Rattle.lists.proofs.Lists.{each-append, each-drop, each-imp, map-append, append-none, every-each}
-use Rattle.policy.specs.Fields.{countSize, recordSize, highest, limits}
+use Rattle.policy.specs.Fields.{countSize, recordSize, highest, limits, workSize}
 use Rattle.policy.specs.Ranges.{Region, proper}
 use Rattle.policy.specs.Rules.{Rule, denies, allowsIn, sound, Proper}
 use Rattle.policy.specs.Refusals.{Outcome, refused, faults, numberOf}
@@ -17,7 +17,6 @@ use Rattle.policy.specs.Move.{Slot, kept, slots, boxesOf, together, anyOver, wo
 use Rattle.policy.specs.declared.Answer.the-variants.{Length, Refused}
 use Rattle.policy.specs.declared.Refusal.{Refusal}
 use Rattle.policy.specs.declared.Refusal.the-variants.{TooManyBoxes}
-use Rattle.groups.specs.Worked.{workSize}
 use Rattle.policy.proofs.Numbers.{orElse-zero}
 use Rattle.policy.proofs.Edits.{slots-append, kept-boxes, kept-over, over-append, together-append, faults-append, list-accepted}
 use Rattle.policy.proofs.Proper.{moved-proper}
@@ -28,19 +27,17 @@ use Rattle.wire.proofs.Records.{rulesIn-length}
 use Rattle.wire.proofs.Numbers.{numberBytes-length, bytes-take, bytes-drop}
 use Rattle.sheet.specs.Orders.{orderBytes}
 use Rattle.sheet.specs.Pairs.{groupsBytes, pairBytes, pairSize}
-use Rattle.sheet.specs.Readers.{rulesOf, listsOf, groupsFrom}
+use Rattle.sheet.specs.Steps.{rulesOf, listsOf, groupsFrom, boxCount}
 use Rattle.sheet.proofs.Outcomes.{faultless}
 use Rattle.sheet.proofs.Pairs.{ProperGroup, PairGood, denies-most}
 use Rattle.sheet.proofs.Accepted.{OrderAccepted, order-accepted}
-use Rattle.draft.specs.Drafts.{alone, stretch, slotGroups, draftSize, Ready, DraftedGroups}
-use Rattle.draft.specs.Sheets.{partOf, sheetOf, orderOf, groupsAt, sheetAround, AroundPut}
+use Rattle.draft.specs.Steps.{alone, stretch, slotGroups, draftSize, Ready, DraftedGroups, partOf, sheetOf, orderOf, groupsAt, sheetAround, AroundPut, runSize, GroupsHeld, keptSlots, slotsBehind, slotsAround, Told, Behind}
 use Rattle.draft.specs.declared.kept.Standing.{Standing}
 use Rattle.draft.specs.declared.Drafted.{Drafted}
 use Rattle.draft.specs.declared.Drafted.the-variants as D
 use Rattle.draft.proofs.Drawn.{drawn-behind}
 use Rattle.draft.proofs.Drafts.{groupsBytes-append, rules-front, rules-sound-front}
 use Rattle.planner.proofs.Good.{pair-short}
-use Rattle.draft.specs.Arounds.{boxesBefore, runSize, GroupsHeld, keptSlots, slotsBehind, slotsAround, Told, Behind}
 use Rattle.planner.specs.Steps.{Writes, slotted, Finishing, Finishes, AllAnew}
 use Rattle.draft.specs.declared.Around.{Around}
 use Rattle.draft.proofs.Runs.{groups-count, held-front}
@@ -171,7 +168,7 @@ module _ {sheet list w : List ℕ} {t : Standing} {gate own : ℕ} {v : Around} 
   short = omega (arith, ready .counted, denies-most (rulesOf gate list), rulesIn-length gate (drop countSize list), a .place .gateLimit)
 
   -- drafting the groups from the place on, where none is kept behind it
-  pub finish-ready : (rules draft : List ℕ) (front : ℕ) → rules ≡ drop countSize list → front ≡ boxesBefore (v .earlier) groups → draftSize limits ≤ length draft → Ready rules (v .place) (v .to) draft 0 front w
+  pub finish-ready : (rules draft : List ℕ) (front : ℕ) → rules ≡ drop countSize list → front ≡ boxCount (v .earlier) groups → draftSize limits ≤ length draft → Ready rules (v .place) (v .to) draft 0 front w
   finish-ready rules draft front e f roomy =
       let q = ready .placed in
       let g = rules-good (v .to) (q .inGate) in
@@ -194,7 +191,7 @@ module _ {sheet list w : List ℕ} {t : Standing} {gate own : ℕ} {v : Around} 
       let s = short in
       rw b (drawn-behind r (rw (i, e) at (x .drafting)) j anew-proper (omega (arith, all-length, ap length b)) roomy)
 
-  module _ {front : ℕ} (counted : front ≡ boxesBefore (v .earlier) groups) {s : List ℕ} where
+  module _ {front : ℕ} (counted : front ≡ boxCount (v .earlier) groups) {s : List ℕ} where
     pub finish-six : {w′ : List ℕ} (f : Refusal) → numberOf f ≡ 6 → Behind behind front D.TooManyPieces s → drop (workSize limits) w′ ≡ drop (workSize limits) w
         → Finishes sheet t list gate own v w (Refused f) sheet w′
     unfolding slotted room work Told
@@ -210,7 +207,7 @@ module _ {sheet list w : List ℕ} {t : Standing} {gate own : ℕ} {v : Around} 
       boxes-are : b ≡ length (together (p .groups))
       unfolding Told
       boxes-are =
-          let e : length (together (p .groups)) ≡ boxesBefore (v .earlier) groups + length (together (slotGroups behind)) =
+          let e : length (together (p .groups)) ≡ boxCount (v .earlier) groups + length (together (slotGroups behind)) =
           ap (λ (g : List (List Region)). length (together g)) all-groups ∙ rw (together-append (groupsFrom (v .earlier) groups) (slotGroups behind)) (length-append (together (groupsFrom (v .earlier) groups)) (together (slotGroups behind))) in
           let d = x .told .1 in
           omega arith

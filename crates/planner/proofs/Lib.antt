@@ -1,6 +1,6 @@
 pub mod Good
 pub mod Demands
-pub mod Runs
+pub mod Theorems
 pub mod Calls
 pub mod Finished
 pub mod Planning

@@ -6,7 +6,7 @@ use native.Mathlib.Omega.{arith}
 use lib.ListN.{length, drop}
 use Rattle.lists.specs.Lists.{Each}
 use Rattle.lists.proofs.Lists.{append-none}
-use Rattle.policy.specs.Fields.{countSize, limits}
+use Rattle.policy.specs.Fields.{countSize, limits, workSize}
 use Rattle.policy.specs.Rules.{allowsIn}
 use Rattle.policy.specs.Refusals.{refused, numberOf}
 use Rattle.policy.specs.Move.{slotsOf, startOf, together, Order}
@@ -15,17 +15,15 @@ use Rattle.policy.specs.declared.Answer.the-variants.{Refused}
 use Rattle.policy.specs.declared.Refusal.{Refusal}
 use Rattle.policy.proofs.Edits.{slots-length}
 use Rattle.wire.specs.Records.{rulesIn}
-use Rattle.groups.specs.Worked.{workSize}
 use Rattle.sheet.specs.Orders.{orderIn}
 use Rattle.sheet.specs.Pairs.{groupsBytes, pairBytes, pairSize}
-use Rattle.sheet.specs.Readers.{rulesOf, listsOf, groupsFrom, OrderRead}
+use Rattle.sheet.specs.Steps.{rulesOf, listsOf, groupsFrom, OrderRead}
 use Rattle.sheet.specs.declared.OrderParts.the-variants.{Parts}
 use Rattle.sheet.proofs.Accepted.{OrderAccepted}
-use Rattle.draft.specs.Arounds.{slotsAround}
+use Rattle.draft.specs.Steps.{slotsAround, orderOf, groupsAt}
 use Rattle.draft.specs.declared.Around.{Around}
 use Rattle.planner.specs.Calls.{planOf, moveOf}
 use Rattle.planner.specs.Steps.{Planned, slotted, Finishing, Finishes}
-use Rattle.draft.specs.Sheets.{orderOf, groupsAt}
 use Rattle.draft.specs.declared.kept.Standing.{Standing}
 use Rattle.planner.proofs.Finished.{refuses}
 

@@ -6,13 +6,12 @@ use mathlib.Core.Bool.{Bool, cond, _&&_}
 use Prim.Native.Nat.{ℕ}
 use lib.Dec.{leb}
 use lib.ListN.{length}
-use Rattle.policy.specs.Fields.{Limits, limits}
-use Rattle.policy.specs.Refusals.{Outcome, accepted, refused, test, andThen, unless, said}
+use Rattle.policy.specs.Fields.{Limits, limits, workSize}
+use Rattle.policy.specs.Refusals.{Outcome, test, andThen, unless, said}
 use Rattle.policy.specs.Move.{slotsOf, room, Order, Pair, moved, gateList, cellList}
 use Rattle.policy.specs.Check.{checkRefusal}
 use Rattle.policy.specs.declared.Answer.{Answer}
-use Rattle.wire.specs.Buffers.{zeroed, written, lengthOf}
-use Rattle.groups.specs.Worked.{workSize}
+use Rattle.wire.specs.Buffers.{zeroed, written, lengthOf, answered}
 use Rattle.sheet.specs.Orders.{orderIn}
 use Rattle.sheet.specs.Pairs.{pairIn, pairBytes, pairSize}
 use Rattle.wire.specs.Lists.{listSize, listBytes}
@@ -53,12 +52,8 @@ unfoldable pub checkOf : Limits → List ℕ → Outcome Pair
 checkOf lim s = andThen (pairIn lim s) (checkedOf lim)
 
 -- Nothing is written, so a length of 0 says yes.
-unfoldable pub yes : Outcome Pair → Outcome ℕ
-yes (accepted p) = accepted 0
-yes (refused n) = refused n
-
 pub record Checks (s w : List ℕ) (r : Answer) (w′ : List ℕ) : Type 0 where
-  pub answer : said r ≡ yes (test (roomFor (workSize limits) w) 1 (checkOf limits s))
+  pub answer : said r ≡ answered 0 (test (roomFor (workSize limits) w) 1 (checkOf limits s))
   pub work : w′ ≡ workAfter limits (roomFor (workSize limits) w) w
 
 -- Cell list and gate list: check, then the list that is wanted.

@@ -4,13 +4,12 @@ use mathlib.Core.Bool.{Bool, true, _&&_}
 use Prim.Native.Nat.{ℕ}
 use lib.Dec.{leb, eqb}
 use lib.ListN.{length, take}
-use Rattle.policy.specs.Fields.{recordSize, Limits, limits}
+use Rattle.policy.specs.Fields.{recordSize, Limits, limits, workSize}
 use Rattle.policy.specs.Refusals.{Outcome, test, andThen, unless}
 use Rattle.policy.specs.Move.{Pair}
 use Rattle.policy.specs.Edit.{Kind, insert, delete, replace, Edit, placeFound, edited, changeRefusal}
 use Rattle.policy.specs.declared.Answer.{Answer}
 use Rattle.wire.specs.Records.{ruleIn}
-use Rattle.groups.specs.Worked.{workSize}
 use Rattle.sheet.specs.Pairs.{pairIn, pairBytes, pairSize}
 use Rattle.planner.specs.Calls.{roomFor, Call}
 use Rattle.planner.specs.declared.Change.{Change}

@@ -1,4 +1,4 @@
 pub mod Calls
 pub mod Steps
 pub mod Edits
-pub mod Demands
+pub mod Theorems

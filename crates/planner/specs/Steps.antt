@@ -3,17 +3,15 @@ use mathlib.Core.Path.{_≡_}
 use mathlib.Core.List.{List, map}
 use Prim.Native.Nat.{ℕ, _+_, _*_, _≤_}
 use lib.ListN.{length, drop}
-use Rattle.policy.specs.Fields.{countSize, recordSize, limits}
+use Rattle.policy.specs.Fields.{countSize, recordSize, limits, workSize}
 use Rattle.policy.specs.Rules.{denies}
 use Rattle.policy.specs.Refusals.{Outcome, unless, said}
 use Rattle.policy.specs.Move.{Slot, boxesOf, room, Order, Pair}
 use Rattle.policy.specs.declared.Answer.{Answer}
-use Rattle.groups.specs.Worked.{workSize}
 use Rattle.sheet.specs.Pairs.{pairBytes, pairSize}
-use Rattle.sheet.specs.Readers.{rulesOf, listsOf, OrderRead}
+use Rattle.sheet.specs.Steps.{rulesOf, listsOf, OrderRead}
 use Rattle.sheet.specs.declared.OrderParts.the-variants.{Parts}
-use Rattle.draft.specs.Arounds.{GroupsHeld, slotsAround, Placed}
-use Rattle.draft.specs.Sheets.{movedTo, orderOf, groupsAt}
+use Rattle.draft.specs.Steps.{GroupsHeld, slotsAround, Placed, movedTo, orderOf, groupsAt}
 use Rattle.draft.specs.declared.Around.{Around}
 use Rattle.draft.specs.declared.kept.Standing.{Standing}
 use Rattle.planner.specs.Calls.{moveOf}

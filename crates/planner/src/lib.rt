@@ -16,10 +16,9 @@ use sheet::OrderParts;
 use sheet::PAIR_BYTES;
 ghost use Prim.Native.Nat.{_≤_};
 ghost use lib.ListN.{length};
-ghost use Rattle.policy.specs.Fields.{limits};
-ghost use Rattle.groups.specs.Worked.{workSize};
+ghost use Rattle.policy.specs.Fields.{limits, workSize};
 ghost use Rattle.sheet.specs.Pairs.{pairSize};
-ghost use Rattle.draft.specs.Drafts.{draftSize};
+ghost use Rattle.draft.specs.Steps.{draftSize};
 ghost use Rattle.planner.specs.Calls.{Moves};
 ghost use Rattle.planner.specs.Steps.{Planned, Finishing, Finishes, AllAnew};
 

@@ -14,7 +14,7 @@ use Rattle.lists.proofs.Tests.{and-true, and-both, bool-eq}
 use Rattle.lists.proofs.Lists.{each-append, each-map}
 use Rattle.policy.specs.Ranges.{Range, range, Region, Packet, within, inside, Whole, Within}
 use Rattle.policy.specs.Demands.{Piece}
-use Rattle.policy.specs.Cut.{meets, lowPart, highPart, shared, after, before, pieces, cut}
+use Rattle.policy.specs.Cut.{meets, lowPart, highPart, shared, before, pieces, cut}
 
 -- Bool as a number, and how many boxes of a list have a packet
 abbrev pub one : Bool → ℕ
@@ -129,7 +129,7 @@ cond-zero true = refl
 cond-zero false = refl
 
 -- boxes that begin with one range, and boxes that end alike
-hits-after : (x : ℕ) (p : Packet) (r : Range) (l : List Region) → hits (x ∷ p) (map (after r) l) ≡ cond (within x r) (hits p l) 0
+hits-after : (x : ℕ) (p : Packet) (r : Range) (l : List Region) → hits (x ∷ p) (map (_∷_ r) l) ≡ cond (within x r) (hits p l) 0
 unfolding hits inside
 hits-after x p r [] = cond-zero (within x r)
 hits-after x p r (b ∷ l) = rw (hits-after x p r l) (go (within x r) (inside p b) (hits p l))
@@ -149,7 +149,7 @@ hits-before x p d (r ∷ l) = rw (hits-before x p d l) (go (within x r) (inside 
     go false true n = refl
     go false false n = refl
 
-hits-none-after : (r : Range) (l : List Region) → hits [] (map (after r) l) ≡ 0
+hits-none-after : (r : Range) (l : List Region) → hits [] (map (_∷_ r) l) ≡ 0
 unfolding hits inside
 hits-none-after r [] = refl
 hits-none-after r (b ∷ l) = rw (hits-none-after r l)
@@ -207,17 +207,17 @@ pieces-hits [] (r ∷ d) [] w = refl
 pieces-hits (x ∷ p) (r ∷ d) [] w = and-id (within x r && inside p d)
 pieces-hits [] (r ∷ d) (s ∷ a) w = go (meets r s)
   where
-    go : (m : Bool) → hits [] (cond m (map (before d) (lowPart r s) ++ (map (before d) (highPart r s) ++ map (after (shared r s)) (pieces d a))) ((r ∷ d) ∷ [])) ≡ 0
+    go : (m : Bool) → hits [] (cond m (map (before d) (lowPart r s) ++ (map (before d) (highPart r s) ++ map (_∷_ (shared r s)) (pieces d a))) ((r ∷ d) ∷ [])) ≡ 0
     go false = refl
     go true = simp (hits-append, hits-none-before, hits-none-after)
 pieces-hits (x ∷ p) (r ∷ d) (s ∷ a) w = go (meets r s) refl (pieces-hits p d a (w .1))
   where
     go : (m : Bool) → meets r s ≡ m → hits p (pieces d a) ≡ one (inside p d && not (inside p a))
-        → hits (x ∷ p) (cond m (map (before d) (lowPart r s) ++ (map (before d) (highPart r s) ++ map (after (shared r s)) (pieces d a))) ((r ∷ d) ∷ []))
+        → hits (x ∷ p) (cond m (map (before d) (lowPart r s) ++ (map (before d) (highPart r s) ++ map (_∷_ (shared r s)) (pieces d a))) ((r ∷ d) ∷ []))
         ≡ one (within x r && inside p d && not (within x s && inside p a))
     go false e ih = alone (within x r) (within x s) (inside p d) (inside p a) (apart-field x r s e)
     go true e ih =
-        rw (hits-append, hits-append, hits-before, hits-before, hits-after, ih, shared-field x r s e (w .0))
+        rw (hits-append, hits-append, hits-before, hits-before, hits-after x p (shared r s) (pieces d a), ih, shared-field x r s e (w .0))
         (join (within x r) (within x s) (inside p d) (inside p a) (sums x (lowPart r s)) (sums x (highPart r s)) (parts-field x r s e (w .0)))
 
 pub within-self : (d : Region) → Within d d
@@ -247,13 +247,13 @@ pieces-inside (r ∷ d) (s ∷ a) u v = go (meets r s) refl (pieces-inside d a (
         (((omega arith, u .1), (omega arith, omega arith, within-self d)), tt)
 
     go : (m : Bool) → meets r s ≡ m → Each (Piece d) (pieces d a)
-        → Each (Piece (r ∷ d)) (cond m (map (before d) (lowPart r s) ++ (map (before d) (highPart r s) ++ map (after (shared r s)) (pieces d a))) ((r ∷ d) ∷ []))
+        → Each (Piece (r ∷ d)) (cond m (map (before d) (lowPart r s) ++ (map (before d) (highPart r s) ++ map (_∷_ (shared r s)) (pieces d a))) ((r ∷ d) ∷ []))
     go false e ih = ((u, within-self (r ∷ d)), tt)
     go true e ih =
         let f = meets-fact r s e in
-        each-append (Piece (r ∷ d)) (map (before d) (lowPart r s)) (map (before d) (highPart r s) ++ map (after (shared r s)) (pieces d a)) (low (ltb (r .low) (s .low)) refl e)
-        (each-append (Piece (r ∷ d)) (map (before d) (highPart r s)) (map (after (shared r s)) (pieces d a)) (high (ltb (s .high) (r .high)) refl e)
-        (each-map (Piece d) (Piece (r ∷ d)) (after (shared r s)) (pieces d a) (λ b h. ((omega arith, h .0), (omega arith, omega arith, h .1))) ih))
+        each-append (Piece (r ∷ d)) (map (before d) (lowPart r s)) (map (before d) (highPart r s) ++ map (_∷_ (shared r s)) (pieces d a)) (low (ltb (r .low) (s .low)) refl e)
+        (each-append (Piece (r ∷ d)) (map (before d) (highPart r s)) (map (_∷_ (shared r s)) (pieces d a)) (high (ltb (s .high) (r .high)) refl e)
+        (each-map (Piece d) (Piece (r ∷ d)) (_∷_ (shared r s)) (pieces d a) (λ b h. ((omega arith, h .0), (omega arith, omega arith, h .1))) ih))
 
 -- at most two pieces for each field
 pieces-few : (d a : Region) → length a ≡ length d → length (pieces d a) ≤ 2 * length d
@@ -268,12 +268,12 @@ pieces-few (r ∷ d) (s ∷ a) h = go (meets r s) (pieces-few d a (omega arith))
     short false q = omega arith
 
     go : (m : Bool) → length (pieces d a) ≤ 2 * length d
-        → length (cond m (map (before d) (lowPart r s) ++ (map (before d) (highPart r s) ++ map (after (shared r s)) (pieces d a))) ((r ∷ d) ∷ [])) ≤ 2 * suc (length d)
+        → length (cond m (map (before d) (lowPart r s) ++ (map (before d) (highPart r s) ++ map (_∷_ (shared r s)) (pieces d a))) ((r ∷ d) ∷ [])) ≤ 2 * suc (length d)
     go false ih = omega arith
     go true ih =
         let f = short (ltb (r .low) (s .low)) (range (r .low) (s .low - 1)) in
         let g = short (ltb (s .high) (r .high)) (range (s .high + 1) (r .high)) in
-        rw (length-append, length-append, length-map (pieces d a) (after (shared r s))) (omega arith)
+        rw (length-append, length-append, length-map (pieces d a) (_∷_ (shared r s))) (omega arith)
 
 -- a box less itself leaves nothing
 pieces-itself : (b : Region) → Whole b → pieces b b ≡ []

@@ -3,7 +3,7 @@
 use mathlib.Core.Path.{_≡_, refl, ap, sym, _∙_}
 use mathlib.Core.List.{List, [], _∷_, _++_, map, append-assoc}
 use mathlib.Core.Bool.{Bool, true, false, cond, not, _||_, true≢false}
-use Prim.Native.Nat.{ℕ, zero, suc, _+_}
+use Prim.Native.Nat.{ℕ, suc, _+_}
 use lib.ListN.{length, take, drop, length-append, length-map}
 use lib.Seq.{take-at, drop-at}
 use borrow.Author.Tests.{not-false}
@@ -13,29 +13,8 @@ use Rattle.policy.specs.Fields.{Limits}
 use Rattle.policy.specs.Ranges.{Region}
 use Rattle.policy.specs.Rules.{Rule, isAllow, sound, complete, denies, allowsIn, anyAllow}
 use Rattle.policy.specs.Refusals.{given, orElse, faults}
-use Rattle.policy.specs.Move.{
-  Slot,
-  kept,
-  anew,
-  startOf,
-  slots,
-  slotsOf,
-  boxesOf,
-  overSlot,
-  anyOver,
-  together,
-  work,
-  room,
-  groupsOf,
-  Order,
-  Pair,
-  moved,
-  badCount,
-  listRefusal,
-  moveRefusal,
-}
-use Rattle.policy.specs.Edit.{Kind, out, put, front, gone, back, changed, around, gateSlots, Edit, newOrder, newSlots, edited, changeRefusal, placeFound, editRefusal, ifAccepted, run, acceptedEdits, allDone}
-use Rattle.policy.specs.Demands.{EditHolds, RunHolds}
+use Rattle.policy.specs.Move.{Slot, kept, anew, startOf, slots, slotsOf, boxesOf, overSlot, anyOver, together, work, room, groupsOf, Order, moved, badCount, listRefusal, moveRefusal}
+use Rattle.policy.specs.Edit.{Kind, out, put, front, gone, back, changed, around, gateSlots, Edit, newOrder, newSlots, edited, changeRefusal}
 use Rattle.policy.proofs.Numbers.{orElse-zero, orElse-skip, orElse-none, orElse-assoc, given-zero}
 
 -- slots of a list in two parts
@@ -262,35 +241,3 @@ module _ (lim : Limits) where
 
   pub change-refuses-as-fresh : (e : Edit) (o : Order) → moveRefusal lim o ≡ 0 → changeRefusal lim e (moved o) ≡ moveRefusal lim (newOrder e o)
   change-refuses-as-fresh e o h = refusal (e .inGate) (e .place) (e .kind) o (move-accepted o h)
-
-  pub edit-holds : (e : Edit) (o : Order) → moveRefusal lim o ≡ 0 → EditHolds lim e o
-  unfolding editRefusal
-  edit-holds e o h = record {
-    number = ap (λ (n : ℕ). orElse (given (not (placeFound e o)) 9) n) (change-refuses-as-fresh e o h);
-    same = edit-as-fresh e o;
-  }
-
-  -- After a run of edits, some refused, the pair is the fresh move, accepted, of the first lists with the accepted edits done.
-  record AsFresh (s : Pair) (o : Order) : Type 0 where
-    pub accepts : moveRefusal lim o ≡ 0
-    pub same : s ≡ moved o
-
-  as-fresh : (es : List Edit) (o : Order) → moveRefusal lim o ≡ 0
-      → AsFresh (run lim es (moved o)) (allDone (acceptedEdits lim es (moved o)) o)
-  unfolding run acceptedEdits allDone
-  as-fresh [] o h = record { accepts = h; same = refl }
-  as-fresh (e ∷ es) o h =
-      go (editRefusal lim e (moved o)) refl (as-fresh es o h) (λ (k : moveRefusal lim (newOrder e o) ≡ 0). as-fresh es (newOrder e o) k)
-    where
-      go : (v : ℕ) → editRefusal lim e (moved o) ≡ v
-          → AsFresh (run lim es (moved o)) (allDone (acceptedEdits lim es (moved o)) o)
-          → (moveRefusal lim (newOrder e o) ≡ 0 → AsFresh (run lim es (moved (newOrder e o))) (allDone (acceptedEdits lim es (moved (newOrder e o))) (newOrder e o)))
-          → AsFresh (run lim es (ifAccepted v (edited e (moved o)) (moved o)))
-          (allDone (ifAccepted v (e ∷ acceptedEdits lim es (ifAccepted v (edited e (moved o)) (moved o))) (acceptedEdits lim es (ifAccepted v (edited e (moved o)) (moved o)))) o)
-      go zero r untouched done =
-          let f = orElse-zero (given (not (placeFound e o)) 9) (moveRefusal lim (newOrder e o)) (sym (edit-holds e o h .number) ∙ r) in
-          rw (edit-as-fresh e o) (done (f .1))
-      go (suc v) r untouched done = untouched
-
-  pub run-holds : (es : List Edit) (o : Order) → moveRefusal lim o ≡ 0 → RunHolds lim es o
-  run-holds es o h = let f = as-fresh es o h in record { accepts = f .accepts; same = f .same }

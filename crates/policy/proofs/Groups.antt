@@ -1,8 +1,7 @@
 -- The facts of a cut read over a list of boxes, and lifted to the group of a deny rule.
-use mathlib.Core.Path.{_≡_, refl, ap, _∙_}
+use mathlib.Core.Path.{_≡_, refl, _∙_}
 use mathlib.Core.List.{List, [], _∷_}
 use mathlib.Core.Bool.{Bool, true, false, cond, not, _&&_, _||_}
-use mathlib.Core.Logic.{_↔_}
 use Prim.Native.Nat.{ℕ, suc, zero, _+_, _≤_, _<_}
 use native.Mathlib.Omega.{arith}
 use lib.Dec.{ltb}
@@ -14,7 +13,7 @@ use Rattle.policy.specs.Cut.{cut, cutEach, group, anyHas}
 use Rattle.lists.specs.Lists.{Each}
 use Rattle.lists.proofs.Lists.{each-append, each-imp}
 use Rattle.policy.specs.Move.{over}
-use Rattle.policy.specs.Demands.{Piece, Apart, Covers}
+use Rattle.policy.specs.Demands.{Piece, Apart}
 use Rattle.policy.proofs.Cuts.{one, hits, hits-append, cut-hits, cut-inside, within-self}
 
 hit : (p : Packet) (l : List Region) (i : ℕ) → i < length l → inside p (getD l i []) ≡ true → 1 ≤ hits p l
@@ -22,15 +21,6 @@ unfolding hits
 hit p [] i h e = omega arith
 hit p (b ∷ l) zero h e = rw e (omega arith)
 hit p (b ∷ l) (suc i) h e = let g = hit p l i (omega arith) e in omega arith
-
-found : (p : Packet) (l : List Region) → 1 ≤ hits p l → Covers l p
-unfolding hits
-found p [] h = absurd (omega arith)
-found p (b ∷ l) h = go (inside p b) refl h (λ k. found p l k)
-  where
-    go : (t : Bool) → inside p b ≡ t → 1 ≤ one t + hits p l → (1 ≤ hits p l → Covers l p) → Covers (b ∷ l) p
-    go true e k f = (0, omega arith, e)
-    go false e k f = let g = f (omega arith) in (suc (g .0), omega arith, g .2)
 
 hit-twice : (p : Packet) (l : List Region) (i j : ℕ) → i < j → j < length l → inside p (getD l i []) ≡ true → inside p (getD l j []) ≡ true → 2 ≤ hits p l
 unfolding hits
@@ -44,11 +34,7 @@ one-le : (t : Bool) → one t ≤ 1
 one-le true = omega arith
 one-le false = omega arith
 
-one-true : (t : Bool) → 1 ≤ one t → t ≡ true
-one-true true h = refl
-one-true false h = absurd (omega arith)
-
--- a list of boxes that counts each packet of a test once is apart, and covers exactly the test
+-- a list of boxes that counts each packet of a test once is apart
 pub once-apart : (t : Packet → Bool) (l : List Region) → ((p : Packet) → hits p l ≡ one (t p)) → Apart l
 once-apart t l h i j o k p e f =
     let g = hit-twice p l i j o k e f in
@@ -56,18 +42,27 @@ once-apart t l h i j o k p e f =
     let n = one-le (t p) in
     omega arith
 
-pub once-covers : (t : Packet → Bool) (l : List Region) → ((p : Packet) → hits p l ≡ one (t p)) → (p : Packet) → Covers l p ↔ (t p ≡ true)
-once-covers t l h p = (
-  (λ c. let g = hit p l (c .0) (c .1) (c .2) in let m = h p in one-true (t p) (omega arith)),
-  (λ e. let m : hits p l ≡ 1 = h p ∙ ap one e in found p l (omega arith)),
-)
+-- boxes that count each packet of a test once have it exactly if the test holds
+pub any-once : (p : Packet) (l : List Region) (t : Bool) → hits p l ≡ one t → anyHas p l ≡ t
+unfolding hits anyHas
+any-once p [] true h = absurd (omega arith)
+any-once p [] false h = refl
+any-once p (b ∷ l) t h = go (inside p b) refl (λ (k : hits p l ≡ one t). any-once p l t k) h
+  where
+    go : (u : Bool) → inside p b ≡ u → (hits p l ≡ one t → anyHas p l ≡ t) → one u + hits p l ≡ one t → (u || anyHas p l) ≡ t
+    go false e ih k = ih (omega arith)
+    go true e ih k = yes-one t k
+      where
+        yes-one : (v : Bool) → 1 + hits p l ≡ one v → true ≡ v
+        yes-one true q = refl
+        yes-one false q = absurd (omega arith)
 
 -- the cut
 pub cut-apart : (d a : Region) → Whole a → Apart (cut d a)
 cut-apart d a w = once-apart (λ p. inside p d && not (inside p a)) (cut d a) (λ p. cut-hits p d a w)
 
-pub cut-covers : (d a : Region) → Whole a → (p : Packet) → Covers (cut d a) p ↔ ((inside p d && not (inside p a)) ≡ true)
-cut-covers d a w = once-covers (λ p. inside p d && not (inside p a)) (cut d a) (λ p. cut-hits p d a w)
+pub cut-covers : (d a : Region) → Whole a → (p : Packet) → anyHas p (cut d a) ≡ (inside p d && not (inside p a))
+cut-covers d a w p = any-once p (cut d a) (inside p d && not (inside p a)) (cut-hits p d a w)
 
 -- the group
 cutEach-hits : (p : Packet) (ds : List Region) (a : Region) → Whole a → hits p (cutEach ds a) ≡ cond (inside p a) 0 (hits p ds)
@@ -109,8 +104,8 @@ group-hits p d l w = group-each-hits p (d ∷ []) l w ∙ go (inside p d) (anyHa
 pub group-apart : (d : Region) (l : List Region) → Each Whole l → Apart (group (d ∷ []) l)
 group-apart d l w = once-apart (λ p. inside p d && not (anyHas p l)) (group (d ∷ []) l) (λ p. group-hits p d l w)
 
-pub group-covers : (d : Region) (l : List Region) → Each Whole l → (p : Packet) → Covers (group (d ∷ []) l) p ↔ ((inside p d && not (anyHas p l)) ≡ true)
-group-covers d l w = once-covers (λ p. inside p d && not (anyHas p l)) (group (d ∷ []) l) (λ p. group-hits p d l w)
+pub group-covers : (d : Region) (l : List Region) → Each Whole l → (p : Packet) → anyHas p (group (d ∷ []) l) ≡ (inside p d && not (anyHas p l))
+group-covers d l w p = any-once p (group (d ∷ []) l) (inside p d && not (anyHas p l)) (group-hits p d l w)
 
 -- every box of a group is never empty, and inside the deny box
 within-trans : (a b c : Region) → Within a b → Within b c → Within a c

@@ -13,8 +13,12 @@ use Rattle.policy.specs.Ranges.{Region}
 use Rattle.policy.specs.Rules.{Rule, rule, isAllow, denies, allowsIn, anyAllow}
 use Rattle.policy.specs.Move.{kept, startOf, slots, boxesOf, Pair}
 use Rattle.policy.specs.Edit.{Kind, out, put, front, gone, back, changed, hasPlace, around, edited}
-use Rattle.policy.specs.Demands.{groupAt, inGateAt, OthersKept, DenyOnly}
+use Rattle.policy.specs.Demands.{groupAt, OthersKept, DenyOnly}
 use Rattle.policy.proofs.Edits.{slots-length, kept-boxes}
+
+-- the pair after a change of A
+abbrev after : ℕ → Kind → Pair → Pair
+after i k s = edited (record { inGate = true; place = i; kind = k }) s
 
 pub denies-append : (x y : List Rule) → denies (x ++ y) ≡ denies x + denies y
 unfolding denies
@@ -49,7 +53,7 @@ module _ (i : ℕ) (k : Kind) (s : Pair) (place : hasPlace i k (s .order .gate) 
   here = leb-true (i + out k) (length (s .order .gate)) place
 
   -- a deny rule before the place
-  before-kept : (j : ℕ) → j < i → isAllow (getD (s .order .gate) j (rule [] 0)) ≡ false → groupAt (edited (inGateAt i k) s) j ≡ groupAt s j
+  before-kept : (j : ℕ) → j < i → isAllow (getD (s .order .gate) j (rule [] 0)) ≡ false → groupAt (after i k s) j ≡ groupAt s j
   before-kept j h e =
       let gate : List Rule = s .order .gate in
       let x : List Rule = front i gate in
@@ -63,7 +67,7 @@ module _ (i : ℕ) (k : Kind) (s : Pair) (place : hasPlace i k (s .order .gate) 
       ∙ getD-take (denies x) (s .groups) (denies (take j gate)) [] c)
 
   -- the deny rule that stood d places after those taken out stands d places after those put in
-  after-kept : (d : ℕ) → groupAt (edited (inGateAt i k) s) (i + (length (put k) + d)) ≡ groupAt s (i + (out k + d))
+  after-kept : (d : ℕ) → groupAt (after i k s) (i + (length (put k) + d)) ≡ groupAt s (i + (out k + d))
   after-kept d =
       let gate : List Rule = s .order .gate in
       let x : List Rule = front i gate in
@@ -90,5 +94,5 @@ module _ (i : ℕ) (k : Kind) (s : Pair) (place : hasPlace i k (s .order .gate) 
       third : (a b c : List (List Region)) (i n d : ℕ) → length a ≡ i → length b ≡ n → getD (a ++ (b ++ c)) (i + (n + d)) [] ≡ getD c d []
       third a b c i n d la lb = rw (← la, ← lb, getD-append-add a (b ++ c) (length b + d) [], getD-append-add b c d [])
 
-  pub others-kept : OthersKept i k s
+  pub others-kept : OthersKept i k s (after i k s)
   others-kept = record { earlier = before-kept; later = after-kept }

@@ -28,7 +28,7 @@ use Rattle.policy.specs.Move.{
   cellList,
 }
 use Rattle.policy.proofs.Cuts.{one, hits, within-fact, within-true}
-use Rattle.policy.proofs.Groups.{group-each-hits}
+use Rattle.policy.proofs.Groups.{any-once, group-each-hits}
 use Rattle.policy.proofs.Numbers.{orElse-zero, given-zero}
 
 -- what a rule with no fault is
@@ -115,21 +115,6 @@ complete-allows p (r ∷ (s ∷ l)) n h k =
         → saysAllow (cond t (found n (r .action)) x) ≡ (inLimits p && not (saysDrop (cond t (found n (r .action)) x)))
     go true e x ih q = rw (proper-inside highest p (r .region) q e) (not-not (eqb (r .action) 1))
     go false e x ih q = ih
-
--- boxes that count each packet of a test once have it exactly if the test holds
-any-once : (p : Packet) (l : List Region) (t : Bool) → hits p l ≡ one t → anyHas p l ≡ t
-unfolding hits anyHas
-any-once p [] true h = absurd (omega arith)
-any-once p [] false h = refl
-any-once p (b ∷ l) t h = go (inside p b) refl (λ (k : hits p l ≡ one t). any-once p l t k) h
-  where
-    go : (u : Bool) → inside p b ≡ u → (hits p l ≡ one t → anyHas p l ≡ t) → one u + hits p l ≡ one t → (u || anyHas p l) ≡ t
-    go false e ih k = ih (omega arith)
-    go true e ih k = yes-one t k
-      where
-        yes-one : (v : Bool) → 1 + hits p l ≡ one v → true ≡ v
-        yes-one true q = refl
-        yes-one false q = absurd (omega arith)
 
 pub any-append : (p : Packet) (l k : List Region) → anyHas p (l ++ k) ≡ (anyHas p l || anyHas p k)
 unfolding anyHas

@@ -13,8 +13,8 @@ use borrow.Author.Tests.{le-leb, lt-leb, le-ltb}
 use Rattle.lists.proofs.Lists.{map-append}
 use Rattle.lists.proofs.Tests.{and-both}
 use Rattle.policy.specs.Ranges.{Range, range, Region}
-use Rattle.policy.specs.Values.{rangeAt, partBelow, partAbove}
-use Rattle.policy.specs.Cut.{meets, shared, after, before, pieces, cut}
+use Rattle.policy.specs.Steps.{rangeAt, partBelow, partAbove}
+use Rattle.policy.specs.Cut.{meets, shared, before, pieces, cut}
 
 abbrev behind : Region → Region → Region
 behind front p = front ++ p
@@ -75,9 +75,9 @@ module _ (k : ℕ) (d a : Region) (h : k < length d) (g : k < length a) where
         let met : meets r s ≡ true = and-both _ _ (le-leb (r .low) (s .high) e) (le-leb (s .low) (r .high) f) in
         let u : Region → Region = behind (take k d) in
         let q : (x : Range) → u (before (drop (suc k) d) x) ≡ set d k x = λ x. sym (set-split d k x h) in
-        let later : map u (map (after (shared r s)) (pieces (drop (suc k) d) (drop (suc k) a))) ≡ rest (k + 1) (set d k (shared r s)) a =
+        let later : map u (map (_∷_ (shared r s)) (pieces (drop (suc k) d) (drop (suc k) a))) ≡ rest (k + 1) (set d k (shared r s)) a =
         rw (add-one, take-suc-set d k (shared r s) h, drop-set-lt (suc k) d k (shared r s) (omega arith))
-        (map-map (after (shared r s)) u (behind (take k d ++ (shared r s ∷ []))) (pieces (drop (suc k) d) (drop (suc k) a)) (λ p. sym (append-assoc (take k d) (shared r s ∷ []) p))) in
+        (map-map (_∷_ (shared r s)) u (behind (take k d ++ (shared r s ∷ []))) (pieces (drop (suc k) d) (drop (suc k) a)) (λ p. sym (append-assoc (take k d) (shared r s ∷ []) p))) in
         rw (
           drop-cons d k (range 0 0) h,
           drop-cons a k (range 0 0) g,

@@ -10,7 +10,8 @@ use lib.ListN.{length, getD, set, drop, drop-of-length-le}
 use lib.Seq.{drop-cons}
 use borrow.Author.Tests.{ltb-true, ltb-false, lt-ltb, le-ltb, not-true, not-false}
 use Rattle.policy.specs.Ranges.{Range, range, Region, everyField}
-use Rattle.policy.specs.Values.{ranges, rangeAt}
+use Rattle.policy.specs.Values.{ranges}
+use Rattle.policy.specs.Steps.{rangeAt}
 
 pub ranges-length : (ls hs : List ℕ) → length ls ≡ length hs → length (ranges ls hs) ≡ length ls
 unfolding ranges

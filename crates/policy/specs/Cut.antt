@@ -23,9 +23,6 @@ shared r s = range (max (r .low) (s .low)) (min (r .high) (s .high))
 abbrev pub before : Region → Range → Region
 before d r = r ∷ d
 
-abbrev pub after : Range → Region → Region
-after r d = r ∷ d
-
 -- The printed algorithm, field by field: where the ranges meet, the low part and the high part with d's later fields, then
 -- what the later fields leave behind the shared range; where they do not, d's own range, and stop. The pieces stand in the
 -- order in which they are made. (Boxes with different numbers of fields share nothing.)
@@ -35,7 +32,7 @@ pieces [] (s ∷ a) = [] ∷ []
 pieces (r ∷ d) [] = (r ∷ d) ∷ []
 pieces (r ∷ d) (s ∷ a) =
     cond (meets r s)
-    (map (before d) (lowPart r s) ++ (map (before d) (highPart r s) ++ map (after (shared r s)) (pieces d a)))
+    (map (before d) (lowPart r s) ++ (map (before d) (highPart r s) ++ map (_∷_ (shared r s)) (pieces d a)))
     ((r ∷ d) ∷ [])
 
 -- What allow box a leaves of deny box d.

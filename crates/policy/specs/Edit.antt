@@ -2,7 +2,7 @@
 -- Assumes nothing.
 use mathlib.Core.List.{List, [], _∷_, _++_, map}
 use mathlib.Core.Bool.{Bool, cond, not, _||_}
-use Prim.Native.Nat.{ℕ, zero, suc, _+_}
+use Prim.Native.Nat.{ℕ, _+_}
 use lib.Dec.{leb}
 use lib.ListN.{length, take, drop}
 use Rattle.policy.specs.Fields.{Limits}
@@ -97,28 +97,7 @@ changeRefusal lim e s =
     (orElse (given (not (complete (newList e (s .order)))) 5)
     (room lim (newOrder e (s .order)) (newSlots e s))))
 
--- 9, then the rest. With 0 the edit is accepted and gives `edited`.
-unfoldable pub editRefusal : Limits → Edit → Pair → ℕ
-editRefusal lim e s = orElse (given (not (placeFound e (s .order))) 9) (changeRefusal lim e s)
-
--- A run of edits, some refused: a refused one leaves the pair as it was.
-abbrev pub ifAccepted {ℓ} : {A : Type ℓ} → ℕ → A → A → A
-ifAccepted zero a b = a
-ifAccepted (suc n) a b = b
-
-abbrev pub step : Limits → Edit → Pair → Pair
-step lim e s = ifAccepted (editRefusal lim e s) (edited e s) s
-
-unfoldable pub run : Limits → List Edit → Pair → Pair
-run lim [] s = s
-run lim (e ∷ es) s = run lim es (step lim e s)
-
--- The edits of a run that were accepted, and lists with edits done on them one after another.
-unfoldable pub acceptedEdits : Limits → List Edit → Pair → List Edit
-acceptedEdits lim [] s = []
-acceptedEdits lim (e ∷ es) s =
-    ifAccepted (editRefusal lim e s) (e ∷ acceptedEdits lim es (step lim e s)) (acceptedEdits lim es (step lim e s))
-
+-- Lists with edits done on them one after another.
 unfoldable pub allDone : List Edit → Order → Order
 allDone [] o = o
 allDone (e ∷ es) o = allDone es (newOrder e o)

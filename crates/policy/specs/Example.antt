@@ -1,8 +1,8 @@
--- The printed example (01, The program): a gate of three rules, a cell that allows all, and the cell list that a move gives.
--- Assumes nothing.
+-- The printed example (01, Boundary table, the program `plan`): a gate of three rules, a cell that allows all, and the cell list
+-- that a move gives. Assumes nothing.
 use mathlib.Core.List.{List, [], _∷_}
 use Prim.Native.Nat.{ℕ}
-use Rattle.policy.specs.Ranges.{range, Region}
+use Rattle.policy.specs.Ranges.{range, Region, Packet}
 use Rattle.policy.specs.Rules.{full, Rule, rule}
 use Rattle.policy.specs.Move.{Order}
 
@@ -28,3 +28,7 @@ exampleCell =
 -- The groups once the gate's first rule is taken out: the deny rule's box whole.
 abbrev pub exampleUncut : List (List Region)
 exampleUncut = (reaching 0 29 0 65535 6 6 ∷ []) ∷ []
+
+-- A packet that the gate denies: to destination 5, by protocol 6.
+abbrev pub exampleDenied : Packet
+exampleDenied = 0 ∷ 5 ∷ 0 ∷ 0 ∷ 6 ∷ []

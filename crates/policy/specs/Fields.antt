@@ -1,7 +1,7 @@
 -- The fields' table and the limits of the two filters. Every other size is derived from these rows.
 -- Assumes nothing.
 use mathlib.Core.List.{List, [], _∷_, map}
-use Prim.Native.Nat.{ℕ, _+_}
+use Prim.Native.Nat.{ℕ, _+_, _*_}
 use lib.ListN.{length}
 
 -- A field: the highest value that it takes, and the bytes that hold it.
@@ -52,7 +52,7 @@ abbrev pub countSize : ℕ
 countSize = 2
 
 -- What a call is bound by: the most rules of A, the most rules of B, the most pieces of one deny rule while its group is
--- worked out (number 6), and the most boxes and own rules together (number 7).
+-- worked out (number 6), and the most boxes and own rules together (number 7), which is the most rules of a list too.
 pub record Limits : Type 0 where
   pub gate : ℕ
   pub own : ℕ
@@ -62,3 +62,7 @@ pub record Limits : Type 0 where
 -- 01, Sheets and Numbers given back.
 abbrev pub limits : Limits
 limits = record { gate = 64; own = 256; pieces = 1024; total = 1024 }
+
+-- 01, Calls: the work buffer holds two lists of as many boxes as one deny rule may have pieces.
+abbrev pub workSize : Limits → ℕ
+workSize lim = 2 * lim .pieces * boxSize

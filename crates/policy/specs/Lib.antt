@@ -8,5 +8,6 @@ pub mod Edit
 pub mod Check
 pub mod Demands
 pub mod Values
+pub mod Steps
 pub mod Boundary
 pub mod Example

@@ -7,7 +7,8 @@ ghost use Rattle.policy.specs.Fields.{fields, highest};
 ghost use Rattle.policy.specs.Ranges.{range, properRange, proper, fullRange, isFull};
 ghost use Rattle.policy.specs.Rules.{sound};
 ghost use Rattle.policy.specs.Refusals.{numberOf, refusalBase};
-ghost use Rattle.policy.specs.Values.{regionOf, rangeAt, ruleOf};
+ghost use Rattle.policy.specs.Values.{regionOf, ruleOf};
+ghost use Rattle.policy.specs.Steps.{rangeAt};
 
 // The fields' table: source address, destination address, source port, destination port, protocol.
 pub const FIELDS: usize = 5;

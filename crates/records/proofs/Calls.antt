@@ -11,7 +11,7 @@ use lib.ListN.{length, take, drop, getD, set, length-append, length-map, length-
 use lib.Seq.{sets, sets-eq, take-at, drop-at, take-add, take-suc, length-take-le, getD-at, getD-drop, length-sets, take-all}
 use borrow.Author.Tests.{not-true, not-false, le-leb, lt-leb, eq-eqb, ne-eqb, leb-true, eqb-true}
 use Rattle.lists.specs.Lists.{Each}
-use Rattle.lists.proofs.Lists.{append-none}
+use Rattle.lists.proofs.Lists.{append-none, sets-append}
 use Rattle.policy.specs.Fields.{fields, widths, recordSize}
 use Rattle.policy.specs.Ranges.{Region}
 use Rattle.policy.specs.Rules.{Rule, rule, sound}
@@ -24,11 +24,10 @@ use Rattle.policy.specs.declared.Answer.the-variants.{Length, Refused}
 use Rattle.policy.proofs.Answers.{said-once}
 use Rattle.wire.specs.Numbers.{Byte}
 use Rattle.wire.specs.Records.{recordBytes, ruleIn}
-use Rattle.records.specs.Calls.{numbersSize, lowOf, highOf, ruleNumbers, numbersRule, readingOf, writingOf, answered, RecordRead, RecordWritten}
-use Rattle.wire.specs.Buffers.{written}
+use Rattle.records.specs.Calls.{numbersSize, lowOf, highOf, ruleNumbers, numbersRule, readingOf, writingOf, RecordRead, RecordWritten}
+use Rattle.wire.specs.Buffers.{answered, written}
 use Rattle.wire.proofs.Buffers.{filled-front, refusal-leaves}
 use Rattle.wire.proofs.Records.{fits-length, sound-fits, recordBytes-length, rule-back, record-written-back}
-use Rattle.lists.proofs.Lists.{sets-append}
 
 -- The numbers of ranges.
 lows-of : (ls hs : List ℕ) → length ls ≡ length hs → map lowOf (ranges ls hs) ≡ ls

@@ -7,10 +7,10 @@ use lib.ListN.{length, take, drop, getD}
 use Rattle.policy.specs.Fields.{fields, recordSize}
 use Rattle.policy.specs.Ranges.{Range}
 use Rattle.policy.specs.Rules.{Rule, rule, sound}
-use Rattle.policy.specs.Refusals.{Outcome, accepted, refused, test, said}
+use Rattle.policy.specs.Refusals.{Outcome, accepted, test, said}
 use Rattle.policy.specs.Values.{ranges}
 use Rattle.policy.specs.declared.Answer.{Answer}
-use Rattle.wire.specs.Buffers.{written}
+use Rattle.wire.specs.Buffers.{written, answered}
 use Rattle.wire.specs.Records.{recordBytes, ruleIn}
 
 -- A rule given as numbers: the lows, the highs, the action.
@@ -39,11 +39,6 @@ writingOf ns out =
     test (leb numbersSize (length ns)) 1
     (test (leb recordSize (length out)) 1
     (test (sound (numbersRule ns)) 4 (accepted (numbersRule ns))))
-
--- What is accepted is answered with n; a refusal with its number.
-unfoldable pub answered : ℕ → Outcome Rule → Outcome ℕ
-answered n (accepted r) = accepted n
-answered n (refused m) = refused m
 
 pub record RecordRead (s ns : List ℕ) (r : Answer) (ns′ : List ℕ) : Type 0 where
   pub answer : said r ≡ answered 0 (readingOf s ns)

@@ -13,10 +13,8 @@ use Rattle.policy.proofs.Edits.{kept-boxes, kept-over, over-append, together-ap
 use Rattle.lists.proofs.Lists.{map-append}
 use Rattle.wire.specs.Numbers.{Byte}
 use Rattle.sheet.specs.Pairs.{groupsBytes}
-use Rattle.sheet.specs.Readers.{groupsFrom}
-use Rattle.draft.specs.Drafts.{stretch, slotGroups}
-use Rattle.draft.specs.Arounds.{boxesBefore, runSize, GroupsHeld, keptSlots, slotsBehind, Told, Behind}
-use Rattle.draft.specs.Sheets.{partOf, orderOf, groupsAt}
+use Rattle.sheet.specs.Steps.{groupsFrom, boxCount}
+use Rattle.draft.specs.Steps.{stretch, slotGroups, runSize, GroupsHeld, keptSlots, slotsBehind, Told, Begins, Behind, partOf, orderOf, groupsAt}
 use Rattle.draft.specs.declared.Drafted.{Drafted}
 use Rattle.draft.specs.declared.Drafted.the-variants.{Groups, TooManyPieces}
 use Rattle.draft.specs.declared.Around.{Around}
@@ -26,7 +24,7 @@ use Rattle.draft.proofs.Drafts.{groupsBytes-append}
 use Rattle.draft.proofs.Runs.{boxes-split, held-front, held-behind}
 use Rattle.planner.specs.Steps.{Finishing}
 use Rattle.planner.proofs.Finished.{part-is, rules-good}
-use Rattle.regrouping.specs.Regroups.{Gathering, Joined, Gathered, Settling}
+use Rattle.regrouping.specs.Steps.{Gathering, Gathered, Settling}
 
 module _ {sheet list w : List ℕ} {t : Standing} {gate own boxes : ℕ} {v : Around} (ready : Settling sheet t list gate own v boxes w) where
   abbrev from : ℕ
@@ -60,14 +58,14 @@ module _ {sheet list w : List ℕ} {t : Standing} {gate own boxes : ℕ} {v : Ar
     pub gap-there : runSize (v .earlier + gone) groups ≤ length groups
     gap-there = rw sum (later-held .there)
 
-    module _ (gap : Gap) (found : (gap .at ≡ runSize (v .earlier) groups) × (gap .next ≡ runSize (v .earlier + gone) groups) × (gap .boxes + boxesBefore (v .earlier) groups ≡ boxesBefore (v .earlier + gone) groups)) where
+    module _ (gap : Gap) (found : (gap .at ≡ runSize (v .earlier) groups) × (gap .next ≡ runSize (v .earlier + gone) groups) × (gap .boxes + boxCount (v .earlier) groups ≡ boxCount (v .earlier + gone) groups)) where
       next-is : gap .next ≡ runSize (v .later) groups
       next-is = rw sum at (found .1)
 
-      lost-is : gap .boxes + boxesBefore (v .earlier) groups ≡ boxesBefore (v .later) groups
+      lost-is : gap .boxes + boxCount (v .earlier) groups ≡ boxCount (v .later) groups
       lost-is = rw sum at (found .2)
 
-      behind-boxes : boxesBefore (v .groups) groups ≡ boxesBefore (v .later) groups + length (together (drop (v .later) (groupsFrom (v .groups) groups)))
+      behind-boxes : boxCount (v .groups) groups ≡ boxCount (v .later) groups + length (together (drop (v .later) (groupsFrom (v .groups) groups)))
       behind-boxes = boxes-split (v .later) (v .groups) groups (finishing .placed .later) (finishing .held)
 
       pub gap-boxes : gap .boxes ≤ boxes
@@ -102,8 +100,8 @@ module _ {sheet list w : List ℕ} {t : Standing} {gate own boxes : ℕ} {v : Ar
         abbrev later : List (List Region)
         later = drop (v .later) (groupsFrom (v .groups) groups)
 
-        joined-behind : (r : Drafted) (s : List ℕ) → Joined anew (boxes - gap .boxes) back r s → Behind (slotsBehind v groups (drop countSize list)) (boxesBefore (v .earlier) groups) r s
-        unfolding Joined Told
+        joined-behind : (r : Drafted) (s : List ℕ) → Told limits anew (boxes - gap .boxes) (Begins s (groupsBytes (slotGroups anew) ++ back)) r → Behind (slotsBehind v groups (drop countSize list)) (boxCount (v .earlier) groups) r s
+        unfolding Told
         joined-behind TooManyPieces s y = record { told = over-append (limits .pieces) anew (keptSlots (v .later) (v .groups) groups) ∙ rw y }
         joined-behind (Groups b n) s y =
             let f : slotGroups (slotsBehind v groups (drop countSize list)) ≡ slotGroups anew ++ later = map-append boxesOf anew _ ∙ ap (λ (x : List (List Region)). slotGroups anew ++ x) (kept-boxes later) in
@@ -118,5 +116,5 @@ module _ {sheet list w : List ℕ} {t : Standing} {gate own boxes : ℕ} {v : Ar
             }
 
         pub gap-behind : (q r : Drafted) → q ≡ r → {w′ : List ℕ} → Gathered rules (v .place) (v .to) (boxes - gap .boxes) back w q w′
-            → Behind (slotsBehind v groups (drop countSize list)) (boxesBefore (v .earlier) groups) r w′
+            → Behind (slotsBehind v groups (drop countSize list)) (boxCount (v .earlier) groups) r w′
         gap-behind q r e {w′} x = joined-behind r w′ (rw (e, rules-are) at (x .joined))

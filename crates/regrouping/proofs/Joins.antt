@@ -7,23 +7,23 @@ use native.Mathlib.Omega.{arith}
 use lib.ListN.{length, take, drop, length-append, length-drop}
 use lib.Seq.{sets, take-at, drop-at, drop-drop, length-sets, length-take-le}
 use Rattle.lists.proofs.Lists.{append-none, drop-sets, sets-parts}
-use Rattle.policy.specs.Fields.{boxSize, countSize, recordSize, limits}
+use Rattle.policy.specs.Fields.{boxSize, countSize, recordSize, limits, workSize}
 use Rattle.policy.specs.Ranges.{Region}
 use Rattle.policy.specs.Rules.{isAllow}
 use Rattle.policy.specs.Cut.{group}
 use Rattle.policy.specs.Move.{Slot, anew, boxesOf, together, overSlot, anyOver}
 use Rattle.wire.specs.Numbers.{numberBytes}
 use Rattle.wire.specs.Records.{ruleIn, boxesBytes}
-use Rattle.wire.specs.Buffers.{copiedUp}
+use Rattle.wire.specs.Steps.{copiedUp}
 use Rattle.wire.proofs.Numbers.{numberBytes-length}
-use Rattle.groups.specs.Worked.{startAt, allowsAt, GroupStands, WorkedOut, workSize}
+use Rattle.groups.specs.Steps.{startAt, allowsAt, GroupStands, WorkedOut}
 use Rattle.groups.specs.declared.Worked.the-variants.{Boxes, TooMany}
 use Rattle.sheet.specs.Pairs.{groupBytes, groupsBytes}
-use Rattle.draft.specs.Drafts.{stretch}
+use Rattle.draft.specs.Steps.{stretch, Told}
 use Rattle.draft.specs.declared.Drafted.the-variants.{Groups, TooManyPieces}
 use Rattle.draft.proofs.Drafts.{stretch-none, stretch-allow, stretch-deny}
 use Rattle.draft.proofs.Turns.{worked-over, worked-boxes, worked-few}
-use Rattle.regrouping.specs.Regroups.{NoneDenies, JoinReady, JoinedIn, Gathering, Joined, Gathered}
+use Rattle.regrouping.specs.Steps.{NoneDenies, JoinReady, JoinedIn, Gathering, Gathered}
 
 -- no rule; and one that allows or denies
 pub no-rule : (rules : List ℕ) (place to : ℕ) → to ≡ place → NoneDenies rules place to true
@@ -81,7 +81,7 @@ module _ {rules : List ℕ} {place to boxes : ℕ} {back w : List ℕ} (ready : 
 
   -- no group: the kept ones alone
   pub gathered-kept : {end : ℕ} {w′ : List ℕ} → NoneDenies rules place to true → (end ≡ 0 + length back) × (w′ ≡ sets w 0 back) → Gathered rules place to boxes back w (Groups boxes end) w′
-  unfolding NoneDenies Joined anyOver together groupsBytes
+  unfolding NoneDenies Told anyOver together groupsBytes
   gathered-kept {end} d e =
       let z : 0 + length back ≡ length back = omega arith in
       let p = e .1 ∙ sets-parts w 0 back (omega (arith, back-fits, ready .workRoom)) in
@@ -100,7 +100,7 @@ module _ {rules : List ℕ} {place to boxes : ℕ} {back w : List ℕ} (ready : 
     stretch-is = let e : to ≡ place + 1 = omega (arith, d .0, ready .one) in rw e (stretch-deny rules place (d .1))
 
     pub gathered-over : {w′ : List ℕ} → WorkedOut rules place w TooMany w′ → Gathered rules place to boxes back w TooManyPieces w′
-    unfolding Joined anyOver overSlot
+    unfolding Told anyOver overSlot
     gathered-over x = record { joined = rw (stretch-is, worked-over x); few = tt; beyond = x .beyond }
 
     module _ {n : ℕ} {w₁ : List ℕ} (x : WorkedOut rules place w (Boxes n) w₁) where
@@ -109,7 +109,7 @@ module _ {rules : List ℕ} {place to boxes : ℕ} {back w : List ℕ} (ready : 
 
       -- past the total nothing is joined
       pub gathered-past : limits .total < boxes + n → Gathered rules place to boxes back w (Groups (boxes + n) 0) w₁
-      unfolding Joined anyOver overSlot boxesOf together
+      unfolding Told anyOver overSlot boxesOf together
       gathered-past h =
           let z = worked-boxes x in
           record {
@@ -122,7 +122,7 @@ module _ {rules : List ℕ} {place to boxes : ℕ} {back w : List ℕ} (ready : 
       join-ready h l = record { few = omega (arith, worked-few x); fits = omega (arith, ready .size); room = omega (arith, ready .workRoom) }
 
       pub gathered-join : {end : ℕ} {w′ : List ℕ} → boxes + n ≤ limits .total → length w′ ≡ length w → JoinedIn w₁ n back end w′ → Gathered rules place to boxes back w (Groups (boxes + n) end) w′
-      unfolding Joined anyOver overSlot boxesOf together GroupStands groupBytes groupsBytes
+      unfolding Told anyOver overSlot boxesOf together GroupStands groupBytes groupsBytes
       gathered-join {end} h l j =
           let z = worked-boxes x in
           let c : numberBytes countSize n ++ take (boxSize * n) w₁ ≡ numberBytes countSize (length g) ++ boxesBytes g = ap (λ (t : List ℕ). numberBytes countSize n ++ t) (x .boxes) ∙ ap (λ (k : ℕ). numberBytes countSize k ++ boxesBytes g) (z .1) in

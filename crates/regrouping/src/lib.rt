@@ -15,7 +15,7 @@ ghost use Prim.Native.Nat.{_+_, _*_, _≤_};
 ghost use lib.ListN.{length};
 ghost use Rattle.policy.specs.Fields.{recordSize};
 ghost use Rattle.planner.specs.Steps.{Finishes};
-ghost use Rattle.regrouping.specs.Regroups.{NoneDenies, JoinReady, JoinedIn, Gathering, Gathered, Settling};
+ghost use Rattle.regrouping.specs.Steps.{NoneDenies, JoinReady, JoinedIn, Gathering, Gathered, Settling};
 
 // Whether no rule from the place up to `to` denies, where there is one at most.
 fn none_denies(rules: &[u8], place: usize, to: usize) -> bool

@@ -17,13 +17,13 @@ use Rattle.wire.specs.Lists.{listSize, listBytes}
 use Rattle.wire.proofs.Records.{rulesIn-length}
 use Rattle.wire.proofs.Lists.{listBytes-length}
 use Rattle.sheet.specs.Orders.{listIn}
-use Rattle.sheet.specs.Readers.{rulesOf}
+use Rattle.sheet.specs.Steps.{rulesOf}
 use Rattle.sheet.proofs.Orders.{ListFits, list-back}
 use Rattle.sheet.proofs.Accepted.{ListAccepted}
 use Rattle.planner.specs.Edits.{kindOf}
 use Rattle.planner.specs.declared.Change.{Change}
 use Rattle.planner.proofs.Demands.{changed-fits}
-use Rattle.changes.specs.Changes.{takenBy, putBy, changedBytes, ListChanged}
+use Rattle.changes.specs.Steps.{takenBy, putBy, changedBytes, ListChanged}
 use Rattle.changes.proofs.Changes.{ChangeDone, change-done, list-spliced, taken-is, put-is, few, changed-length}
 
 -- What is known once the changed list stands in the buffer.

@@ -7,7 +7,7 @@ use lib.ListN.{length, take, drop, length-append}
 use lib.Seq.{take-all, drop-at}
 use Rattle.lists.specs.Lists.{Each}
 use Rattle.lists.proofs.Lists.{three-parts}
-use Rattle.policy.specs.Fields.{countSize, recordSize, limits}
+use Rattle.policy.specs.Fields.{countSize, recordSize, limits, workSize}
 use Rattle.policy.specs.Ranges.{Region}
 use Rattle.policy.specs.Rules.{Rule, denies}
 use Rattle.policy.specs.Refusals.{refused, numberOf}
@@ -19,15 +19,13 @@ use Rattle.policy.specs.declared.Refusal.{Refusal}
 use Rattle.wire.specs.Numbers.{Byte}
 use Rattle.wire.specs.Lists.{listSize, listBytes}
 use Rattle.wire.proofs.Lists.{list-rules}
-use Rattle.groups.specs.Worked.{workSize}
 use Rattle.sheet.specs.Orders.{orderIn, orderBytes, gateSize, listIn}
 use Rattle.sheet.specs.Pairs.{pairSize}
-use Rattle.sheet.specs.Readers.{rulesOf, listsOf, OrderRead, orderHeard, OrderPlaced, pairOf}
+use Rattle.sheet.specs.Steps.{rulesOf, listsOf, OrderRead, orderHeard, OrderPlaced, pairOf}
 use Rattle.sheet.specs.declared.OrderParts.the-variants.{Parts}
 use Rattle.sheet.proofs.Orders.{order-again}
 use Rattle.sheet.proofs.Accepted.{PairAccepted, ListAccepted}
-use Rattle.draft.specs.Arounds.{runSize, GroupsHeld, slotsAround, Placed}
-use Rattle.draft.specs.Sheets.{orderOf, groupsAt}
+use Rattle.draft.specs.Steps.{runSize, GroupsHeld, slotsAround, Placed, orderOf, groupsAt}
 use Rattle.draft.specs.declared.Around.{Around}
 use Rattle.draft.specs.declared.kept.Standing.{Standing}
 use Rattle.draft.proofs.Runs.{run-length}
@@ -35,11 +33,10 @@ use Rattle.planner.specs.Steps.{slotted, Finishes, AllAnew}
 use Rattle.planner.specs.Edits.{Asked, asked, kindOf, editOf, editedOf}
 use Rattle.planner.specs.declared.Change.{Change}
 use Rattle.planner.proofs.Finished.{part-is}
-use Rattle.regrouping.specs.Regroups.{Settling}
-use Rattle.changes.specs.Changes.{takenBy, putBy, changedBytes, ListChanged}
-use Rattle.changes.specs.Drafts.{aroundOf}
+use Rattle.regrouping.specs.Steps.{Settling}
+use Rattle.changes.specs.Steps.{takenBy, putBy, changedBytes, ListChanged, aroundOf}
 use Rattle.changes.proofs.Changes.{taken-is, few}
-use Rattle.revising.specs.Edits.{Revised}
+use Rattle.revising.specs.Steps.{Revised}
 use Rattle.revising.proofs.Slots.{around-length, gate-slots, gate-placed, gate-wide}
 use Rattle.revising.proofs.Parts.{list-first, known, gate-long, own-long, sheet-used, gate-bytes, own-bytes}
 use Rattle.revising.proofs.Changed.{ChangedList, changed-list, Renewed, list-renewed}

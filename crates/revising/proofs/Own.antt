@@ -8,7 +8,7 @@ use lib.ListN.{length, take, drop}
 use borrow.Author.Tests.{lt-ltb, le-ltb}
 use Rattle.lists.specs.Lists.{Each}
 use Rattle.lists.proofs.Lists.{drop-sets}
-use Rattle.policy.specs.Fields.{boxSize, countSize, limits}
+use Rattle.policy.specs.Fields.{boxSize, countSize, limits, workSize}
 use Rattle.policy.specs.Rules.{Rule, denies}
 use Rattle.policy.specs.Refusals.{accepted, refused, unless, given, numberOf}
 use Rattle.policy.specs.Move.{room, work, Order, Pair}
@@ -19,18 +19,16 @@ use Rattle.policy.proofs.Edits.{kept-boxes, kept-over}
 use Rattle.wire.specs.Numbers.{Byte}
 use Rattle.wire.specs.Lists.{listSize, listBytes}
 use Rattle.wire.specs.Buffers.{filled, written, lengthOf}
-use Rattle.groups.specs.Worked.{workSize}
 use Rattle.sheet.specs.Orders.{orderBytes, gateSize, listIn}
 use Rattle.sheet.specs.Pairs.{pairBytes, pairSize}
-use Rattle.sheet.specs.Readers.{rulesOf, pairOf}
+use Rattle.sheet.specs.Steps.{rulesOf, pairOf}
 use Rattle.sheet.proofs.Pairs.{denies-most}
 use Rattle.sheet.proofs.Accepted.{PairAccepted, ListAccepted}
 use Rattle.planner.specs.Steps.{Writes, slotted}
 use Rattle.planner.specs.Edits.{Asked, asked, kindOf, editOf, editedOf}
 use Rattle.planner.specs.declared.Change.{Change}
 use Rattle.planner.proofs.Finished.{part-is}
-use Rattle.changes.specs.Changes.{changedBytes, newBytes, ListChanged}
-use Rattle.changes.specs.Puts.{withList, PutReady}
+use Rattle.changes.specs.Steps.{changedBytes, newBytes, ListChanged, withList, PutReady}
 use Rattle.changes.proofs.Changes.{change-refused}
 use Rattle.revising.proofs.Parts.{own-long, sheet-used, gate-bytes, own-bytes}
 use Rattle.revising.proofs.Changed.{ChangedList, changed-list, Renewed, list-renewed}

@@ -16,7 +16,7 @@ use Rattle.wire.proofs.Lists.{listBytes-length}
 use Rattle.wire.specs.Numbers.{numberBytes}
 use Rattle.policy.specs.Fields.{countSize}
 use Rattle.sheet.specs.Orders.{orderBytes}
-use Rattle.sheet.specs.Readers.{rulesOf, listsOf}
+use Rattle.sheet.specs.Steps.{rulesOf, listsOf}
 use Rattle.sheet.proofs.Accepted.{PairAccepted}
 use Rattle.revising.proofs.Revised as revised
 

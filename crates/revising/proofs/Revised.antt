@@ -20,14 +20,14 @@ use Rattle.policy.proofs.Numbers.{orElse-assoc}
 use Rattle.policy.proofs.Edits.{list-accepted, changed-faults}
 use Rattle.wire.proofs.Records.{rulesIn-length}
 use Rattle.sheet.specs.Pairs.{pairIn}
-use Rattle.sheet.specs.Readers.{rulesOf, listsOf, pairOf}
+use Rattle.sheet.specs.Steps.{rulesOf, listsOf, pairOf}
 use Rattle.sheet.proofs.Outcomes.{faultless}
 use Rattle.sheet.proofs.Orders.{ListFits, faultless-fits}
 use Rattle.sheet.proofs.Accepted.{PairAccepted}
 use Rattle.planner.specs.Steps.{slotted}
 use Rattle.planner.specs.Edits.{Asked, asked, editOf, wholeRecord, changeOf, editedOf}
 use Rattle.planner.specs.declared.Change.{Change}
-use Rattle.changes.specs.Changes.{takenBy, changedBytes, ListChanged}
+use Rattle.changes.specs.Steps.{takenBy, changedBytes, ListChanged}
 use Rattle.changes.proofs.Changes.{taken-is, change-refused}
 
 unless-refused : {A B : Type 0} (k r n : ℕ) (y : A) (z : B) → unless k y ≡ refused n → unless (orElse k r) z ≡ refused n

@@ -16,18 +16,16 @@ use Rattle.policy.proofs.Edits.{slots-append, slots-length}
 use Rattle.policy.proofs.Kept.{denies-append}
 use Rattle.wire.specs.Records.{rulesIn}
 use Rattle.wire.proofs.Records.{rulesIn-length}
-use Rattle.sheet.specs.Readers.{groupsFrom}
+use Rattle.sheet.specs.Steps.{groupsFrom}
 use Rattle.sheet.proofs.Pairs.{denies-most}
-use Rattle.draft.specs.Drafts.{alone, stretch}
+use Rattle.draft.specs.Steps.{alone, stretch, keptSlots, slotsAround, Placed}
 use Rattle.draft.proofs.Drafts.{rules-front}
 use Rattle.planner.specs.Edits.{kindOf}
 use Rattle.planner.specs.declared.Change.{Change}
-use Rattle.changes.specs.Changes.{takenBy, putBy}
-use Rattle.changes.specs.Drafts.{touched, aroundOf}
+use Rattle.changes.specs.Steps.{takenBy, putBy, touched, aroundOf}
 use Rattle.draft.specs.declared.Around.{Around}
 use Rattle.draft.proofs.Runs.{groups-front, groups-count}
 use Rattle.changes.proofs.Changes.{taken-is, put-is, few}
-use Rattle.draft.specs.Arounds.{keptSlots, slotsAround, Placed}
 
 -- how many groups there are around a change
 pub around-length : (f : Region → List Region) (x m n y : List Rule) (gs : List (List Region)) → length gs ≡ denies (x ++ (m ++ y))

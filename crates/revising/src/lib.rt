@@ -17,12 +17,11 @@ use sheet::PairParts;
 use sheet::Section;
 ghost use Prim.Native.Nat.{_+_, _≤_};
 ghost use lib.ListN.{length};
-ghost use Rattle.policy.specs.Fields.{recordSize, limits};
+ghost use Rattle.policy.specs.Fields.{recordSize, limits, workSize};
 ghost use Rattle.sheet.specs.Orders.{gateSize};
 ghost use Rattle.sheet.specs.Pairs.{pairSize};
-ghost use Rattle.groups.specs.Worked.{workSize};
 ghost use Rattle.planner.specs.Edits.{asked};
-ghost use Rattle.revising.specs.Edits.{Revised};
+ghost use Rattle.revising.specs.Steps.{Revised};
 
 // The largest A, and a record more: a new count is tested once it is written.
 const LIST_BYTES: usize = GATE_BYTES + RECORD_BYTES;

@@ -16,7 +16,7 @@ use Rattle.wire.proofs.Numbers.{numberBytes-length}
 use Rattle.wire.proofs.Records.{rulesIn-length}
 use Rattle.sheet.specs.Orders.{orderIn, orderBytes, listIn}
 use Rattle.sheet.specs.Pairs.{groupsBytes, pairIn, pairBytes}
-use Rattle.sheet.specs.Readers.{rulesOf, listHeard, ListPlace, ListPlaced, ListRead, listsOf, ListsPlace, orderHeard, OrderPlaced, OrderRead, pairOf, pairHeard, PairPlace, PairPlaced, PairRead}
+use Rattle.sheet.specs.Steps.{rulesOf, listHeard, ListPlace, ListPlaced, ListRead, listsOf, ListsPlace, orderHeard, OrderPlaced, OrderRead, pairOf, pairHeard, PairPlace, PairPlaced, PairRead}
 use Rattle.sheet.specs.declared.Section.{Section}
 use Rattle.sheet.specs.declared.Section.the-variants as S
 use Rattle.sheet.specs.declared.OrderParts.{OrderParts}

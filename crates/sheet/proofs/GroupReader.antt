@@ -20,7 +20,7 @@ use Rattle.wire.specs.Records.{boxesIn}
 use Rattle.wire.proofs.Records.{boxesIn-length}
 use Rattle.sheet.specs.Sections.{Reading, reading}
 use Rattle.sheet.specs.Pairs.{groupSize, groupBoxes, behind, groupsIn}
-use Rattle.sheet.specs.Readers.{withTotal, groupsFrom, groupsHeard, GroupsPlace, GroupsPlaced, GroupsRead}
+use Rattle.sheet.specs.Steps.{withTotal, groupsFrom, groupsHeard, GroupsPlace, GroupsPlaced, GroupsRead}
 use Rattle.sheet.specs.declared.Groups.{Groups}
 use Rattle.sheet.specs.declared.Groups.the-variants.{Boxes, Fault}
 use Rattle.sheet.proofs.Parts.{part-from}

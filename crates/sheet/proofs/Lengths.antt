@@ -13,13 +13,13 @@ use Rattle.policy.specs.Fields.{Limits, highest, boxSize, countSize, recordSize
 use Rattle.policy.specs.Ranges.{Region, proper}
 use Rattle.policy.specs.Rules.{Rule, sound, complete, denies}
 use Rattle.policy.specs.Refusals.{Outcome, accepted, refused, test, andThen}
-use Rattle.policy.specs.Move.{Pair}
+use Rattle.policy.specs.Move.{Order, Pair}
 use Rattle.wire.specs.Numbers.{numberIn}
 use Rattle.wire.specs.Records.{rulesIn, boxesIn}
 use Rattle.wire.specs.Lists.{countIn, listSize}
 use Rattle.wire.proofs.Records.{boxesIn-length, boxes-front, rules-front}
 use Rattle.sheet.specs.Sections.{Reading, reading, section, sectionRules}
-use Rattle.sheet.specs.Orders.{ended, order}
+use Rattle.sheet.specs.Orders.{ended, order, listsIn}
 use Rattle.sheet.specs.Pairs.{groupSize, groupBoxes, behind, groupsIn, groupSection, pairIn}
 use Rattle.sheet.proofs.Prefixes.{Reader, Steady, grab, say, next, grab-steady, say-steady, next-steady, same-steady, whole, whole-next, then-same, other-length, block, block-steady, block-is}
 
@@ -129,59 +129,61 @@ module _ (lim : Limits) where
       (next-steady (oneGroup total) (more k total) (block-steady boxSize (groupCount total) groupItems)
       (λ g. next-steady (groupsIn lim k (total + length g)) (λ gs. say (accepted (g ∷ gs))) (groups-steady k (total + length g)) (λ gs. say-steady (accepted (g ∷ gs)))))
 
-  -- Section C, and the sheet.
-  groupsCount : List Rule → Reader ℕ
-  groupsCount a = next (grab countSize) (λ c. say (test (eqb (numberIn c) (denies a)) 8 (accepted 0)))
+  -- A and B, section C, and the sheet.
+  lists-steady : Steady (listsIn lim)
+  unfolding listsIn
+  lists-steady =
+      next-steady (section (lim .gate)) (λ a. next (section (lim .own)) (λ b. say (accepted (order a b)))) (section-steady (lim .gate))
+      (λ a. next-steady (section (lim .own)) (λ b. say (accepted (order a b))) (section-steady (lim .own)) (λ b. say-steady (accepted (order a b))))
 
-  pairOf : List Rule → List Rule → List (List Region) → Pair
-  pairOf a b gs = record { order = order a b; groups = gs }
+  groupsCount : Order → Reader ℕ
+  groupsCount o = next (grab countSize) (λ c. say (test (eqb (numberIn c) (denies (o .gate))) 8 (accepted 0)))
 
-  sectionC : List Rule → List Rule → Reader Pair
-  sectionC a b = next (groupsCount a) (λ n. next (groupsIn lim (denies a) (length b)) (λ gs. say (accepted (pairOf a b gs))))
+  pairOf : Order → List (List Region) → Pair
+  pairOf o gs = record { order = o; groups = gs }
+
+  groupsBehind : Order → Reader Pair
+  groupsBehind o = next (groupsIn lim (denies (o .gate)) (length (o .own))) (λ gs. say (accepted (pairOf o gs)))
+
+  sectionC : Order → Reader Pair
+  sectionC o = next (groupsCount o) (λ n. groupsBehind o)
 
   pairReader : Reader Pair
-  pairReader = next (section (lim .gate)) (λ a. next (section (lim .own)) (λ b. sectionC a b))
+  pairReader = next (listsIn lim) sectionC
 
-  section-c-is : (a b : List Rule) (s : List ℕ) → groupSection lim a b s ≡ whole (sectionC a b) s
-  unfolding groupSection sectionC groupsCount pairOf
-  section-c-is a b s = go (leb countSize (length s))
+  section-c-is : (o : Order) (s : List ℕ) → groupSection lim o s ≡ whole (sectionC o) s
+  unfolding groupSection sectionC groupsCount groupsBehind pairOf
+  section-c-is o s = go (leb countSize (length s))
     where
-      rest : Reader Pair
-      rest = next (groupsIn lim (denies a) (length b)) (λ gs. say (accepted (pairOf a b gs)))
-
       same : (u : Bool)
-          → test u 8 (andThen (groupsIn lim (denies a) (length b) (drop countSize s)) (λ r. ended r (pairOf a b (r .value))))
-          ≡ andThen (andThen (say (test u 8 (accepted 0)) (drop countSize s)) (λ (r : Reading ℕ). rest (r .rest))) (λ r. ended r (r .value))
-      same true = sym (whole-next (groupsIn lim (denies a) (length b)) (λ gs. say (accepted (pairOf a b gs))) (drop countSize s))
+          → test u 8 (andThen (groupsIn lim (denies (o .gate)) (length (o .own)) (drop countSize s)) (λ r. ended r (pairOf o (r .value))))
+          ≡ andThen (andThen (say (test u 8 (accepted 0)) (drop countSize s)) (λ (r : Reading ℕ). groupsBehind o (r .rest))) (λ r. ended r (r .value))
+      same true = sym (whole-next (groupsIn lim (denies (o .gate)) (length (o .own))) (λ gs. say (accepted (pairOf o gs))) (drop countSize s))
       same false = refl
 
       go : (t : Bool)
-          → test t 3 (test (eqb (countIn s) (denies a)) 8 (andThen (groupsIn lim (denies a) (length b) (drop countSize s)) (λ r. ended r (pairOf a b (r .value)))))
+          → test t 3 (test (eqb (countIn s) (denies (o .gate))) 8 (andThen (groupsIn lim (denies (o .gate)) (length (o .own)) (drop countSize s)) (λ r. ended r (pairOf o (r .value)))))
           ≡ andThen (andThen (andThen (test t 3 (accepted (reading (take countSize s) (drop countSize s))))
-          (λ (r : Reading (List ℕ)). say (test (eqb (numberIn (r .value)) (denies a)) 8 (accepted 0)) (r .rest))) (λ (r : Reading ℕ). rest (r .rest))) (λ r. ended r (r .value))
-      go true = same (eqb (countIn s) (denies a))
+          (λ (r : Reading (List ℕ)). say (test (eqb (numberIn (r .value)) (denies (o .gate))) 8 (accepted 0)) (r .rest))) (λ (r : Reading ℕ). groupsBehind o (r .rest))) (λ r. ended r (r .value))
+      go true = same (eqb (countIn s) (denies (o .gate)))
       go false = refl
 
   pair-is : (s : List ℕ) → pairIn lim s ≡ whole pairReader s
   unfolding pairIn pairReader
-  pair-is s =
-      then-same (section (lim .gate) s) _ _ (λ a. then-same (section (lim .own) (a .rest)) _ _ (λ b. section-c-is (a .value) (b .value) (b .rest))
-      ∙ sym (whole-next (section (lim .own)) (λ b. sectionC (a .value) b) (a .rest)))
-      ∙ sym (whole-next (section (lim .gate)) (λ a. next (section (lim .own)) (λ b. sectionC a b)) s)
+  pair-is s = then-same (listsIn lim s) _ _ (λ r. section-c-is (r .value) (r .rest)) ∙ sym (whole-next (listsIn lim) sectionC s)
 
   pair-steady : Steady pairReader
-  unfolding pairReader sectionC groupsCount
+  unfolding pairReader sectionC groupsCount groupsBehind
   pair-steady =
-      next-steady (section (lim .gate)) (λ a. next (section (lim .own)) (λ b. sectionC a b)) (section-steady (lim .gate))
-      (λ a. next-steady (section (lim .own)) (λ b. sectionC a b) (section-steady (lim .own))
-      (λ b. next-steady (groupsCount a) (λ n. next (groupsIn lim (denies a) (length b)) (λ gs. say (accepted (pairOf a b gs))))
-      (next-steady (grab countSize) (λ c. say (test (eqb (numberIn c) (denies a)) 8 (accepted 0))) (grab-steady countSize) (λ c. say-steady (test (eqb (numberIn c) (denies a)) 8 (accepted 0))))
-      (λ n. next-steady (groupsIn lim (denies a) (length b)) (λ gs. say (accepted (pairOf a b gs))) (groups-steady (denies a) (length b)) (λ gs. say-steady (accepted (pairOf a b gs))))))
+      next-steady (listsIn lim) sectionC lists-steady
+      (λ o. next-steady (groupsCount o) (λ n. groupsBehind o)
+      (next-steady (grab countSize) (λ c. say (test (eqb (numberIn c) (denies (o .gate))) 8 (accepted 0))) (grab-steady countSize) (λ c. say-steady (test (eqb (numberIn c) (denies (o .gate))) 8 (accepted 0))))
+      (λ n. next-steady (groupsIn lim (denies (o .gate)) (length (o .own))) (λ gs. say (accepted (pairOf o gs))) (groups-steady (denies (o .gate)) (length (o .own))) (λ gs. say-steady (accepted (pairOf o gs)))))
 
   -- A buffer that begins with a pair sheet, told any other length than the sheet's: fewer bytes are too few, and of more some
   -- are left over.
-  pub untrue-length-refused :
+  pub other-length-refused :
       (s : List ℕ) (p : Pair) (buffer : List ℕ) (used : ℕ) → pairIn lim s ≡ accepted p → take (length s) buffer ≡ s → used ≤ length buffer
       → (used ≡ length s → ⊥) → pairIn lim (take used buffer) ≡ refused 3
-  untrue-length-refused s p buffer used e b h d =
+  other-length-refused s p buffer used e b h d =
       pair-is (take used buffer) ∙ other-length pairReader pair-steady s p buffer used (sym (pair-is s) ∙ e) b h d

@@ -11,14 +11,13 @@ use Rattle.policy.specs.Refusals.{accepted, refused, numberOf}
 use Rattle.policy.specs.declared.Refusal.{Refusal}
 use Rattle.policy.specs.declared.Refusal.the-variants.{LengthWrong}
 use Rattle.sheet.specs.Sections.{reading}
-use Rattle.sheet.specs.Orders.{orderIn}
-use Rattle.sheet.specs.Readers.{SectionRead, listsIn, listsOf, listsHeard, ListsPlace, ListsPlaced, ListsRead, orderHeard, OrderPlaced, OrderRead}
+use Rattle.sheet.specs.Orders.{orderIn, listsIn}
+use Rattle.sheet.specs.Steps.{SectionRead, listsOf, listsHeard, ListsPlace, ListsPlaced, ListsRead, orderHeard, OrderPlaced, OrderRead}
 use Rattle.sheet.specs.declared.Section.{Section}
 use Rattle.sheet.specs.declared.Section.the-variants as S
 use Rattle.sheet.specs.declared.Lists.{Lists}
 use Rattle.sheet.specs.declared.Lists.the-variants as L
 use Rattle.sheet.specs.declared.OrderParts.the-variants as O
-use Rattle.sheet.proofs.Orders.{order-ended}
 use Rattle.sheet.proofs.Parts.{part-from}
 use Rattle.sheet.proofs.SectionReader.{section-fault, section-rules, section-place}
 
@@ -93,22 +92,24 @@ module _ {s : List ℕ} where
 
   module _ {r : Lists} (x : ListsRead s r) where
     pub order-fault : (f : Refusal) → r ≡ L.Fault f → OrderRead s (O.Fault f)
-    order-fault f e = order-faulty f (order-ended limits s ∙ rw (lists-fault x f e) refl)
+    unfolding orderIn
+    order-fault f e = order-faulty f (rw (lists-fault x f e) refl)
 
     module _ (n m middle third : ℕ) (e : r ≡ L.Parts n m middle third) where
       pub order-over : third < length s → OrderRead s (O.Fault LengthWrong)
+      unfolding orderIn
       order-over h =
           order-faulty LengthWrong
-          (order-ended limits s ∙ rw (lists-parts x n m middle third e, ne-eqb (length (drop third s)) 0 (λ z. omega (arith, length-drop third s))) refl)
+          (rw (lists-parts x n m middle third e, ne-eqb (length (drop third s)) 0 (λ z. omega (arith, length-drop third s))) refl)
 
       pub order-read : length s ≤ third → OrderRead s (O.Parts n m middle)
-      unfolding orderHeard OrderPlaced
+      unfolding orderHeard OrderPlaced orderIn
       order-read h =
           let p = lists-place x n m middle third e in
           let i = p .inside in
           let o = p .ownEnd in
           record {
-            says = sym (order-ended limits s ∙ rw (lists-parts x n m middle third e, eq-eqb (length (drop third s)) 0 (omega (arith, length-drop third s))) refl);
+            says = sym (rw (lists-parts x n m middle third e, eq-eqb (length (drop third s)) 0 (omega (arith, length-drop third s))) refl);
             place = record {
               gateEnd = p .gateEnd;
               ownEnd = omega arith;

@@ -10,14 +10,13 @@ use borrow.Author.Tests.{eqb-true}
 use Rattle.lists.specs.Lists.{Each}
 use Rattle.policy.specs.Fields.{Limits}
 use Rattle.policy.specs.Rules.{Rule, sound}
-use Rattle.policy.specs.Refusals.{Outcome, accepted, refused, andThen, orElse, unless}
+use Rattle.policy.specs.Refusals.{Outcome, accepted, andThen, orElse, unless}
 use Rattle.policy.specs.Move.{Order, listRefusal}
 use Rattle.wire.specs.Numbers.{Byte}
 use Rattle.wire.proofs.Numbers.{bytes-drop}
 use Rattle.wire.proofs.Records.{RuleFits, sound-fits}
 use Rattle.sheet.specs.Sections.{Reading, reading, section}
-use Rattle.sheet.specs.Orders.{ended, order, orderIn, orderBytes, listIn}
-use Rattle.sheet.specs.Readers.{listsIn}
+use Rattle.sheet.specs.Orders.{ended, order, orderIn, orderBytes, listIn, listsIn}
 use Rattle.sheet.proofs.Outcomes.{through, faultless}
 use Rattle.sheet.proofs.Sections.{section-good, section-written-back, section-back}
 use Rattle.lists.proofs.Lists.{each-every}
@@ -42,31 +41,6 @@ pub ended-accepted : {A B : Type 0} (r : Reading A) (v w : B) → ended r v ≡ 
 ended-accepted r v w e =
     let a = test-accepted (eqb (length (r .rest)) 0) 3 _ e in
     (cc (a .1), nothing-left (r .rest) (eqb-true (length (r .rest)) 0 (a .0)))
-
--- Going on from A and B.
-module _ {A B C D : Type 0} (g : A → B → C) (h : C → Outcome D) where
-  second : (a : A) (y : Outcome B) → andThen y (λ b. h (g a b)) ≡ andThen (andThen y (λ b. accepted (g a b))) h
-  second a (accepted b) = refl
-  second a (refused n) = refl
-
-  both : (x : Outcome A) (f : A → Outcome B)
-      → andThen x (λ a. andThen (f a) (λ b. h (g a b))) ≡ andThen (andThen x (λ a. andThen (f a) (λ b. accepted (g a b)))) h
-  both (accepted a) f = second a (f a)
-  both (refused n) f = refl
-
-abbrev pub behindLists : {A : Type 0} → (Reading Order → Outcome A) → Limits → List ℕ → Outcome A
-behindLists f lim s =
-    andThen (section (lim .gate) s)
-    (λ a. andThen (section (lim .own) (a .rest)) (λ b. f (reading (order (a .value) (b .value)) (b .rest))))
-
-pub behind-lists : {A : Type 0} (f : Reading Order → Outcome A) (lim : Limits) (s : List ℕ) → behindLists f lim s ≡ andThen (listsIn lim s) f
-unfolding listsIn
-behind-lists f lim s =
-    both (λ (a b : Reading (List Rule)). reading (order (a .value) (b .value)) (b .rest)) f (section (lim .gate) s) (λ a. section (lim .own) (a .rest))
-
-pub order-ended : (lim : Limits) (s : List ℕ) → orderIn lim s ≡ andThen (listsIn lim s) (λ r. ended r (r .value))
-unfolding orderIn
-order-ended lim s = behind-lists (λ (r : Reading Order). ended r (r .value)) lim s
 
 -- A and B that were accepted.
 record ListsGood (lim : Limits) (s : List ℕ) (r : Reading Order) : Type 0 where
@@ -126,10 +100,11 @@ lists-back lim o t g w =
 pub order-back :
     (lim : Limits) (o : Order) → ListFits (o .gate) → ListFits (o .own)
     → orderIn lim (orderBytes o) ≡ unless (orElse (listRefusal (lim .gate) (o .gate)) (listRefusal (lim .own) (o .own))) o
+unfolding orderIn
 order-back lim o g w =
     let n : ℕ = orElse (listRefusal (lim .gate) (o .gate)) (listRefusal (lim .own) (o .own)) in
     let e : listsIn lim (orderBytes o) ≡ unless n (reading o []) = rw append-nil at (lists-back lim o [] g w) in
-    order-ended lim (orderBytes o) ∙ rw e (unless-then n (reading o []) _ o refl)
+    rw e (unless-then n (reading o []) _ o refl)
 
 pub order-again :
     (lim : Limits) (o : Order) → lim .gate < 65536 → lim .own < 65536 → listRefusal (lim .gate) (o .gate) ≡ 0 → listRefusal (lim .own) (o .own) ≡ 0
@@ -139,8 +114,9 @@ order-again lim o g w e f =
 
 -- What was accepted: A and B of an order sheet, and nothing behind them.
 order-lists : (lim : Limits) (s : List ℕ) (o : Order) → orderIn lim s ≡ accepted o → listsIn lim s ≡ accepted (reading o [])
+unfolding orderIn
 order-lists lim s o e =
-    let a = through (listsIn lim s) _ o (sym (order-ended lim s) ∙ e) in
+    let a = through (listsIn lim s) _ o e in
     let b = ended-accepted (a .value) (a .value .value) o (a .then) in
     a .first ∙ (λ i. accepted (reading (b .0 i) (b .1 i)))
 

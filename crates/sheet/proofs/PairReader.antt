@@ -15,14 +15,13 @@ use Rattle.policy.specs.declared.Refusal.the-variants.{LengthWrong, GroupsDiffe
 use Rattle.wire.proofs.Records.{rulesIn-length}
 use Rattle.sheet.specs.Orders.{ended, order}
 use Rattle.sheet.specs.Pairs.{groupsIn, groupSection, pairIn}
-use Rattle.sheet.specs.Readers.{rulesOf, ListsPlace, ListsRead, GroupsRead, pairHeard, PairPlaced, PairRead}
+use Rattle.sheet.specs.Steps.{rulesOf, ListsPlace, ListsRead, GroupsRead, pairHeard, PairPlaced, PairRead}
 use Rattle.sheet.specs.declared.Lists.{Lists}
 use Rattle.sheet.specs.declared.Lists.the-variants as L
 use Rattle.sheet.specs.declared.Groups.{Groups}
 use Rattle.sheet.specs.declared.Groups.the-variants as G
 use Rattle.sheet.specs.declared.PairParts.the-variants as P
 use Rattle.sheet.proofs.Parts.{part-from}
-use Rattle.sheet.proofs.Pairs.{pair-lists}
 use Rattle.sheet.proofs.OrderReader.{lists-fault, lists-parts, lists-place}
 use Rattle.sheet.proofs.GroupReader.{groups-fault, groups-boxes, groups-place}
 use Rattle.wire.specs.Lists.{countIn, listSize}
@@ -33,7 +32,8 @@ pair-faulty f e = record { says = sym e; place = tt }
 
 module _ {s : List ℕ} {r : Lists} (x : ListsRead s r) where
   pub pair-fault : (f : Refusal) → r ≡ L.Fault f → PairRead s (P.Fault f)
-  pair-fault f e = pair-faulty f (pair-lists limits s ∙ rw (lists-fault x f e) refl)
+  unfolding pairIn
+  pair-fault f e = pair-faulty f (rw (lists-fault x f e) refl)
 
   module _ (n m middle third : ℕ) (e : r ≡ L.Parts n m middle third) where
     place : ListsPlace s n m middle third
@@ -54,8 +54,9 @@ module _ {s : List ℕ} {r : Lists} (x : ListsRead s r) where
     abbrev own : List Rule
     own = rulesOf m (drop middle s)
 
-    behind : pairIn limits s ≡ groupSection limits gate own (drop third s)
-    behind = pair-lists limits s ∙ rw (lists-parts x n m middle third e) refl
+    behind : pairIn limits s ≡ groupSection limits (order gate own) (drop third s)
+    unfolding pairIn
+    behind = rw (lists-parts x n m middle third e) refl
 
     pub no-group-count : length s - third < countSize → PairRead s (P.Fault LengthWrong)
     unfolding groupSection

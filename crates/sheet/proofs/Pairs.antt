@@ -12,19 +12,18 @@ use Rattle.lists.specs.Lists.{Each, every}
 use Rattle.policy.specs.Fields.{Limits, highest, widths, boxSize, countSize}
 use Rattle.policy.specs.Ranges.{Region, proper}
 use Rattle.policy.specs.Rules.{Rule, isAllow, denies}
-use Rattle.policy.specs.Refusals.{accepted, andThen}
+use Rattle.policy.specs.Refusals.{accepted}
 use Rattle.policy.specs.Move.{Order, Pair, together, listRefusal}
 use Rattle.wire.specs.Numbers.{numberBytes, Byte}
 use Rattle.wire.specs.Records.{Fits, boxesBytes}
 use Rattle.wire.proofs.Numbers.{numberBytes-length, bytes-drop}
 use Rattle.wire.proofs.Records.{proper-fits, boxesIn-length, boxesBytes-length, boxes-back, boxes-written-back}
 use Rattle.sheet.specs.Sections.{Reading, reading}
-use Rattle.sheet.specs.Orders.{order, orderBytes}
+use Rattle.sheet.specs.Orders.{order, orderBytes, listsIn}
 use Rattle.sheet.specs.Pairs.{groupSize, groupBoxes, behind, groupsIn, groupSection, pairIn, groupBytes, groupsBytes, pairBytes}
-use Rattle.sheet.specs.Readers.{listsIn}
 use Rattle.wire.proofs.Counts.{count-back, count-behind, count-written-back, counted, counted-written-back}
 use Rattle.sheet.proofs.Outcomes.{through, faultless}
-use Rattle.sheet.proofs.Orders.{faultless-fits, ended-accepted, behind-lists, lists-faultless, lists-written-back, lists-back}
+use Rattle.sheet.proofs.Orders.{faultless-fits, ended-accepted, lists-faultless, lists-written-back, lists-back}
 use Rattle.lists.proofs.Lists.{each-every}
 use Rattle.policy.proofs.Answers.{test-accepted}
 use Rattle.wire.specs.Lists.{countIn}
@@ -139,23 +138,22 @@ groups-back lim (g ∷ gs) total t m h w =
     )
 
 -- Section C that was accepted.
-record SectionCGood (lim : Limits) (a b : List Rule) (s : List ℕ) (p : Pair) : Type 0 where
+record SectionCGood (lim : Limits) (o : Order) (s : List ℕ) (p : Pair) : Type 0 where
   pub there : countSize ≤ length s
-  pub count : countIn s ≡ denies a
-  pub groups : groupsIn lim (denies a) (length b) (drop countSize s) ≡ accepted (reading (p .groups) [])
-  pub order : p .order ≡ order a b
+  pub count : countIn s ≡ denies (o .gate)
+  pub groups : groupsIn lim (denies (o .gate)) (length (o .own)) (drop countSize s) ≡ accepted (reading (p .groups) [])
+  pub order : p .order ≡ o
 
-section-c-good :
-    (lim : Limits) (a b : List Rule) (s : List ℕ) (p : Pair) → groupSection lim a b s ≡ accepted p → SectionCGood lim a b s p
+section-c-good : (lim : Limits) (o : Order) (s : List ℕ) (p : Pair) → groupSection lim o s ≡ accepted p → SectionCGood lim o s p
 unfolding groupSection
-section-c-good lim a b s p e =
+section-c-good lim o s p e =
     let c = test-accepted (leb countSize (length s)) 3 _ e in
-    let d = test-accepted (eqb (countIn s) (denies a)) 8 _ (c .1) in
-    let f = through (groupsIn lim (denies a) (length b) (drop countSize s)) _ p (d .1) in
+    let d = test-accepted (eqb (countIn s) (denies (o .gate))) 8 _ (c .1) in
+    let f = through (groupsIn lim (denies (o .gate)) (length (o .own)) (drop countSize s)) _ p (d .1) in
     let g = ended-accepted (f .value) _ p (f .then) in
     record {
       there = leb-true countSize (length s) (c .0);
-      count = eqb-true (countIn s) (denies a) (d .0);
+      count = eqb-true (countIn s) (denies (o .gate)) (d .0);
       groups = f .first ∙ (λ i. accepted (reading (g .0 i .groups) (g .1 i)));
       order = λ i. sym (g .0) i .order;
     }
@@ -177,29 +175,24 @@ pub record PairGood (lim : Limits) (p : Pair) : Type 0 where
   pub counted : length (p .groups) ≡ denies (p .order .gate)
   pub groups : GroupsGood lim (length (p .order .own)) (p .groups)
 
-pub pair-lists :
-    (lim : Limits) (s : List ℕ)
-    → pairIn lim s ≡ andThen (listsIn lim s) (λ r. groupSection lim (r .value .gate) (r .value .own) (r .rest))
-unfolding pairIn
-pair-lists lim s = behind-lists (λ (r : Reading Order). groupSection lim (r .value .gate) (r .value .own) (r .rest)) lim s
-
 module _ (lim : Limits) (s : List ℕ) (p : Pair) (e : pairIn lim s ≡ accepted p) where
   -- The order in front of an accepted section C, and the bytes of that.
   record Front : Type 0 where
     pub third : List ℕ
     pub lists : listsIn lim s ≡ accepted (reading (p .order) third)
-    pub groups : SectionCGood lim (p .order .gate) (p .order .own) third p
+    pub groups : SectionCGood lim (p .order) third p
 
   front : Front
+  unfolding pairIn
   front =
-      let a = through (listsIn lim s) _ p (sym (pair-lists lim s) ∙ e) in
+      let a = through (listsIn lim s) _ p e in
       let r = a .value in
-      let g = section-c-good lim (r .value .gate) (r .value .own) (r .rest) p (a .then) in
+      let g = section-c-good lim (r .value) (r .rest) p (a .then) in
       let o : r .value ≡ p .order = sym (g .order) in
       record {
         third = r .rest;
         lists = a .first ∙ (λ i. accepted (reading (o i) (r .rest)));
-        groups = subst (λ (x : Order). SectionCGood lim (x .gate) (x .own) (r .rest) p) o g;
+        groups = subst (λ (x : Order). SectionCGood lim x (r .rest) p) o g;
       }
 
   pub pair-good : lim .own ≤ lim .total → PairGood lim p
@@ -231,7 +224,7 @@ module _ (lim : Limits) (s : List ℕ) (p : Pair) (e : pairIn lim s ≡ accepted
 
 -- What is written reads back as itself.
 pub pair-back : (lim : Limits) (p : Pair) → lim .gate < 65536 → lim .own < 65536 → lim .total < 65536 → PairGood lim p → pairIn lim (pairBytes p) ≡ accepted p
-unfolding pairBytes groupSection
+unfolding pairBytes pairIn groupSection
 pair-back lim p u v w g =
     let o = p .order in
     let n : ℕ = length (p .groups) in
@@ -243,8 +236,7 @@ pair-back lim p u v w g =
     lists-back lim o t (faultless-fits (lim .gate) (o .gate) u (g .gate)) (faultless-fits (lim .own) (o .own) v (g .own)) ∙ rw (g .gate, g .own) refl in
     let e : groupsIn lim n (length (o .own)) (groupsBytes (p .groups)) ≡ accepted (reading (p .groups) []) =
     rw append-nil at (groups-back lim (p .groups) (length (o .own)) [] w (g .groups .boxes) (g .groups .within)) in
-    pair-lists lim (orderBytes o ++ t)
-    ∙ rw (
+    rw (
       l,
       count-back n (groupsBytes (p .groups)) (omega arith),
       count-behind n (groupsBytes (p .groups)),

@@ -5,10 +5,10 @@ use mathlib.Core.List.{List, [], _++_, append-assoc, append-nil}
 use mathlib.Core.Bool.{Bool, true, false}
 use Prim.Native.Nat.{ℕ, _+_, _*_, _-_, _<_, _≤_}
 use native.Mathlib.Omega.{arith}
-use lib.Dec.{leb, eqb}
+use lib.Dec.{leb}
 use lib.ListN.{length, take, drop, length-append, length-take, length-drop, take-append-drop}
 use lib.Seq.{take-at, drop-at, take-append-le, take-append-add, length-take-le, take-add, take-take, drop-drop}
-use borrow.Author.Tests.{le-leb, leb-true, leb-false, lt-leb, eqb-true, eqb-false, ne-eqb}
+use borrow.Author.Tests.{le-leb, leb-true, leb-false, lt-leb, ne-eqb}
 use Rattle.lists.proofs.Tests.{bool-eq}
 use Rattle.policy.specs.Fields.{countSize}
 use Rattle.policy.specs.Refusals.{Outcome, accepted, refused, test, andThen}
@@ -143,20 +143,6 @@ module _ {A : Type 0} (f : Reader A) (steady : Steady f) where
           let g : n < length s = leb-false (length s) n i in
           let w : take n b ≡ take n s = sym (take-take n (length s) b (omega arith)) ∙ ap (take n) p in
           rw (w, fewer n g) refl
-
-  -- So at most one of the strings that bytes begin with is accepted.
-  pub one-length : (s : List ℕ) (u v : ℕ) (a b : A) → u ≤ length s → v ≤ length s → whole f (take u s) ≡ accepted a → whole f (take v s) ≡ accepted b → u ≡ v
-  one-length s u v a b h k x y = go (eqb v u) refl
-    where
-      l : length (take u s) ≡ u
-      l = length-take-le u s h
-
-      go : (t : Bool) → eqb v u ≡ t → u ≡ v
-      go true e = sym (eqb-true v u e)
-      go false e =
-          let r = other-length (take u s) a s v x (ap (λ (n : ℕ). take n s) l) k (λ q. eqb-false v u e (q ∙ l)) in
-          let z : _≡_ {A = ℕ} 0 1 = cc in
-          absurd (omega arith)
 
 -- A count, so many items of one size behind it, and what is found of the count and then of the items.
 abbrev pub block : {A : Type 0} → ℕ → (ℕ → Outcome ℕ) → (ℕ → List ℕ → Outcome A) → Reader A

@@ -18,7 +18,7 @@ use Rattle.policy.specs.declared.Refusal.the-variants.{CountOutside, LengthWron
 use Rattle.wire.specs.Records.{boxIn, ruleIn, rulesIn}
 use Rattle.sheet.specs.Sections.{reading, section}
 use Rattle.sheet.specs.Orders.{listIn}
-use Rattle.sheet.specs.Readers.{rulesOf, sectionHeard, SectionPlace, SectionPlaced, SectionRead, listHeard, ListPlaced, ListRead}
+use Rattle.sheet.specs.Steps.{rulesOf, sectionHeard, SectionPlace, SectionPlaced, SectionRead, listHeard, ListPlaced, ListRead}
 use Rattle.sheet.specs.declared.Section.{Section}
 use Rattle.sheet.specs.declared.Section.the-variants.{Rules, Fault}
 use Rattle.wire.specs.Lists.{countIn, listSize}

@@ -1,4 +1,4 @@
 pub mod Sections
 pub mod Orders
 pub mod Pairs
-pub mod Readers
+pub mod Steps

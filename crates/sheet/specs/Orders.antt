@@ -7,7 +7,7 @@ use Rattle.policy.specs.Fields.{Limits}
 use Rattle.policy.specs.Rules.{Rule}
 use Rattle.policy.specs.Refusals.{Outcome, accepted, test, andThen}
 use Rattle.policy.specs.Move.{Order}
-use Rattle.sheet.specs.Sections.{Reading, section}
+use Rattle.sheet.specs.Sections.{Reading, reading, section}
 use Rattle.wire.specs.Lists.{listSize, listBytes}
 
 -- Nothing may be left over (3), and this is asked last.
@@ -17,10 +17,15 @@ ended r v = test (eqb (length (r .rest)) 0) 3 (accepted v)
 abbrev pub order : List Rule → List Rule → Order
 order a b = record { gate = a; own = b }
 
--- Section A, the gate's rules; then section B, the cell's own rules, which begins where A ends.
+-- What every sheet begins with: section A, the gate's rules; then section B, the cell's own rules, which begins where A ends.
+unfoldable pub listsIn : Limits → List ℕ → Outcome (Reading Order)
+listsIn lim s =
+    andThen (section (lim .gate) s)
+    (λ a. andThen (section (lim .own) (a .rest)) (λ b. accepted (reading (order (a .value) (b .value)) (b .rest))))
+
+-- An order sheet is that and nothing behind it.
 unfoldable pub orderIn : Limits → List ℕ → Outcome Order
-orderIn lim s =
-    andThen (section (lim .gate) s) (λ a. andThen (section (lim .own) (a .rest)) (λ b. ended b (order (a .value) (b .value))))
+orderIn lim s = andThen (listsIn lim s) (λ r. ended r (r .value))
 
 unfoldable pub orderBytes : Order → List ℕ
 orderBytes o = listBytes (o .gate) ++ listBytes (o .own)

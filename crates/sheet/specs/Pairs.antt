@@ -7,13 +7,13 @@ use lib.ListN.{length, drop}
 use Rattle.lists.specs.Lists.{every}
 use Rattle.policy.specs.Fields.{highest, boxSize, countSize, Limits}
 use Rattle.policy.specs.Ranges.{Region, proper}
-use Rattle.policy.specs.Rules.{Rule, denies}
+use Rattle.policy.specs.Rules.{denies}
 use Rattle.policy.specs.Refusals.{Outcome, accepted, test, andThen}
-use Rattle.policy.specs.Move.{Pair}
+use Rattle.policy.specs.Move.{Order, Pair}
 use Rattle.wire.specs.Numbers.{numberBytes}
 use Rattle.wire.specs.Records.{boxesBytes, boxesIn}
-use Rattle.sheet.specs.Sections.{Reading, reading, section}
-use Rattle.sheet.specs.Orders.{ended, order, orderBytes, orderSize}
+use Rattle.sheet.specs.Sections.{Reading, reading}
+use Rattle.sheet.specs.Orders.{ended, listsIn, orderBytes, orderSize}
 use Rattle.wire.specs.Lists.{countIn}
 
 -- The bytes that a group of n boxes takes, and the boxes of the group at the front of the bytes.
@@ -41,16 +41,14 @@ groupsIn lim (suc n) total s =
     (andThen (groupsIn lim n (total + countIn s) (drop (groupSize (countIn s)) s)) (λ r. accepted (behind (groupBoxes s) r))))))
 
 -- Section C behind A and B: the count of groups is there (3) and is that of A's deny rules (8), then the groups, then nothing.
-unfoldable pub groupSection : Limits → List Rule → List Rule → List ℕ → Outcome Pair
-groupSection lim a b s =
+unfoldable pub groupSection : Limits → Order → List ℕ → Outcome Pair
+groupSection lim o s =
     test (leb countSize (length s)) 3
-    (test (eqb (countIn s) (denies a)) 8
-    (andThen (groupsIn lim (denies a) (length b) (drop countSize s)) (λ r. ended r (record { order = order a b; groups = r .value }))))
+    (test (eqb (countIn s) (denies (o .gate))) 8
+    (andThen (groupsIn lim (denies (o .gate)) (length (o .own)) (drop countSize s)) (λ r. ended r (record { order = o; groups = r .value }))))
 
 unfoldable pub pairIn : Limits → List ℕ → Outcome Pair
-pairIn lim s =
-    andThen (section (lim .gate) s)
-    (λ a. andThen (section (lim .own) (a .rest)) (λ b. groupSection lim (a .value) (b .value) (b .rest)))
+pairIn lim s = andThen (listsIn lim s) (λ r. groupSection lim (r .value) (r .rest))
 
 -- Written: A, B, the count of groups, and each group as its count and its boxes.
 unfoldable pub groupBytes : List Region → List ℕ

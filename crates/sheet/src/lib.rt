@@ -16,7 +16,7 @@ ghost use Rattle.policy.specs.Rules.{sound, denies};
 ghost use Rattle.wire.specs.Records.{boxesIn};
 ghost use Rattle.wire.specs.Lists.{listSize};
 ghost use Rattle.sheet.specs.Pairs.{groupSize};
-ghost use Rattle.sheet.specs.Readers.{rulesOf, SectionRead, ListRead, ListsRead, OrderRead, GroupsRead, PairRead};
+ghost use Rattle.sheet.specs.Steps.{rulesOf, SectionRead, ListRead, ListsRead, OrderRead, GroupsRead, PairRead};
 
 // The largest A list, B list, order sheet and pair sheet.
 pub const GATE_BYTES: usize = COUNT_BYTES + RECORD_BYTES * GATE_MOST;

@@ -17,12 +17,11 @@ use Rattle.policy.proofs.Answers.{test-accepted}
 use Rattle.wire.specs.Numbers.{numberIn}
 use Rattle.wire.specs.Records.{rulesIn}
 use Rattle.wire.proofs.Records.{RuleFits, sound-fits, rulesIn-length}
-use Rattle.filter.specs.Lookup.{Hit, lookFrom, lookup, lookupNumber}
-use Rattle.filter.specs.Verdicts.{decidedBy}
+use Rattle.filter.specs.Lookup.{Hit, lookFrom, lookup, lookupNumber, decidedBy}
 use Rattle.filter.proofs.Lists.{look-first}
 use Rattle.wire.proofs.Lists.{listBytes-length, list-count, list-rules}
-use Rattle.filter.proofs.Verdicts.{Small, look-small, tells}
-use Rattle.table.specs.Table.{lookupTable, Storable, Agrees}
+use Rattle.filter.proofs.Verdicts.{InList, look-small, tells}
+use Rattle.table.specs.Table.{lookupTable, Storable, AgreesTheorem}
 use Rattle.wire.specs.Lists.{listBytes, listSize}
 
 -- From rules to bytes.
@@ -49,7 +48,7 @@ bytes-agree most p s n is e =
       eq-eqb (length s) (listSize n) e,
     ) refl
 
-pub table-agrees : (most : ℕ) (p : Packet) → Agrees most p
+pub table-agrees : AgreesTheorem
 table-agrees most p = record { as-bytes = rules-agree most p; as-rules = bytes-agree most p }
 
 -- A rule with a number that its bytes could not hold is bad.
@@ -67,7 +66,7 @@ module _ (most : ℕ) (p : Packet) (l : List Rule) where
   table-first h some few = rw (le-leb 1 (length l) some, le-leb (length l) most few) (look-first 0 p l h)
 
   -- The rule that decides is one of the table, and its action is 0 or 1.
-  table-small : (h : Hit) → lookupTable most p l ≡ accepted h → Small most h
+  table-small : (h : Hit) → lookupTable most p l ≡ accepted h → InList most h
   unfolding lookupTable
   table-small h e =
       let rules : Outcome Hit = lookFrom 0 p l in

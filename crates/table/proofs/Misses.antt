@@ -8,9 +8,9 @@ use lib.ListN.{length, getD}
 use borrow.Author.Count.{below-more}
 use borrow.Author.Tests.{eqb-true, eqb-false}
 use Rattle.policy.specs.Ranges.{Region, Packet, within, inside}
-use Rattle.policy.specs.Values.{rangeAt}
+use Rattle.policy.specs.Steps.{rangeAt}
 use Rattle.filter.proofs.Insides.{InRange, outside-at, all-inside}
-use Rattle.table.specs.Table.{missOf}
+use Rattle.table.specs.Steps.{missOf}
 
 -- What is known of the first k fields when m of them miss.
 pub record Passed (p : Packet) (b : Region) (k m : ℕ) : Type 0 where

@@ -16,7 +16,8 @@ use Rattle.policy.specs.Rules.{Rule, sound}
 use Rattle.policy.specs.Refusals.{refusalBase, Outcome, accepted, refused, test}
 use Rattle.wire.proofs.Records.{sound-action}
 use Rattle.filter.specs.Lookup.{Hit, hit, lookFrom, lookupNumber}
-use Rattle.table.specs.Table.{lookupTable, noneFits, counted, goingOn}
+use Rattle.table.specs.Table.{lookupTable}
+use Rattle.table.specs.Steps.{noneFits, counted, goingOn}
 
 -- The count, before any rule is looked at.
 module _ (most n : ℕ) where

@@ -1,20 +1,17 @@
--- Lookup of a packet in a table of rules in memory (01, Calls), and the words in which its code goes about it.
--- Assumes nothing.
+-- Lookup of a packet in a table of rules in memory (01, Calls). Assumes nothing.
 use mathlib.Core.Path.{_≡_}
 use mathlib.Core.List.{List}
-use mathlib.Core.Bool.{Bool, cond, _&&_}
 use Prim.Native.Nat.{ℕ, _^_, _<_}
-use lib.Dec.{leb, ltb, eqb}
-use lib.ListN.{length, take, drop, replicate}
+use lib.Dec.{leb}
+use lib.ListN.{length, take, drop}
 use Rattle.lists.specs.Lists.{Each}
-use Rattle.policy.specs.Fields.{fields, widths, actionSize, countSize}
-use Rattle.policy.specs.Ranges.{Range, Packet, within}
+use Rattle.policy.specs.Fields.{widths, actionSize, countSize}
+use Rattle.policy.specs.Ranges.{Packet}
 use Rattle.policy.specs.Rules.{Rule}
-use Rattle.policy.specs.Refusals.{Outcome, refused, test}
-use Rattle.policy.specs.declared.Rule.{Rule as RuleValue}
+use Rattle.policy.specs.Refusals.{Outcome, test}
 use Rattle.wire.specs.Numbers.{numberIn}
 use Rattle.wire.specs.Records.{Fits, rulesIn}
-use Rattle.filter.specs.Lookup.{Hit, lookFrom, lookup, lookupNumber}
+use Rattle.filter.specs.Lookup.{Hit, lookFrom, lookup}
 use Rattle.wire.specs.Lists.{listBytes, listSize}
 
 -- The count is within its limits (2); then the rules, in the order and with the numbers that list bytes have.
@@ -33,22 +30,5 @@ pub record Agrees (most : ℕ) (p : Packet) : Type 0 where
   pub as-rules : (s : List ℕ) (n : ℕ) → n ≡ numberIn (take countSize s) → length s ≡ listSize n
       → lookupTable most p (rulesIn n (drop countSize s)) ≡ lookup most p s
 
--- The number for C while no rule has fitted.
-abbrev pub noneFits : ℕ
-noneFits = lookupNumber (refused 5)
-
--- The number for C before any rule of a table of n is looked at.
-unfoldable pub counted : ℕ → ℕ → ℕ
-counted most n = lookupNumber (test (leb 1 n) 2 (test (leb n most) 2 (refused 5)))
-
--- Whether the rule at place i of n is still to be tried.
-unfoldable pub goingOn : ℕ → ℕ → ℕ → Bool
-goingOn i n answer = ltb i n && eqb answer noneFits
-
--- 1 for a value outside a range, 0 for one inside it.
-abbrev pub missOf : ℕ → Range → ℕ
-missOf x r = cond (within x r) 0 1
-
--- What stands past a table's end.
-abbrev pub blank : RuleValue
-blank = record { bounds = record { low = replicate fields 0; high = replicate fields 0 }; action = 0 }
+abbrev pub AgreesTheorem : Type 0
+AgreesTheorem = (most : ℕ) (p : Packet) → Agrees most p

@@ -16,7 +16,8 @@ ghost use Rattle.policy.specs.Fields.{limits};
 ghost use Rattle.policy.specs.Ranges.{range, inside, Whole};
 ghost use Rattle.policy.specs.Values.{regionOf, ruleOf, packetOf};
 ghost use Rattle.filter.specs.Lookup.{lookFrom, lookupNumber};
-ghost use Rattle.table.specs.Table.{blank, counted, goingOn, lookupTable, missOf};
+ghost use Rattle.table.specs.Table.{lookupTable};
+ghost use Rattle.table.specs.Steps.{blank, counted, goingOn, missOf};
 
 // 1 for a field outside its range, 0 for one inside it.
 fn miss(x: u32, low: u32, high: u32) -> u32

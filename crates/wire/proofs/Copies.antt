@@ -6,7 +6,7 @@ use native.Mathlib.Omega.{arith}
 use native.Mathlib.Numerals.{add-one}
 use lib.ListN.{length, take, drop, getD, set, length-drop, length-append, List·getD-append, take-append-drop}
 use lib.Seq.{set-at, length-take-le, take-suc, drop-cons, getD-take, getD-append-add, getD-drop, append-snoc}
-use Rattle.wire.specs.Buffers.{copiedDown, copiedUp}
+use Rattle.wire.specs.Steps.{copiedDown, copiedUp}
 
 -- down, from the front on
 module _ (by from : ℕ) (w : List ℕ) where

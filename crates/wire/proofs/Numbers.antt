@@ -11,7 +11,8 @@ use lib.Seq.{drop-cons, take-suc, take-all, length-take-le}
 use borrow.Author.Tests.{eqb-true, ne-eqb}
 use Rattle.lists.specs.Lists.{Each}
 use Rattle.lists.proofs.Lists.{each-take, each-drop}
-use Rattle.wire.specs.Numbers.{numberBytes, numberFrom, numberIn, Byte, isWidth}
+use Rattle.wire.specs.Numbers.{numberBytes, numberFrom, numberIn, Byte}
+use Rattle.wire.specs.Steps.{isWidth}
 
 -- Parts of bytes are bytes.
 pub bytes-take : (n : ℕ) (s : List ℕ) → Each Byte s → Each Byte (take n s)

@@ -12,9 +12,11 @@ use Rattle.lists.proofs.Lists.{sets-append, every-at}
 use Rattle.policy.specs.Fields.{fields, widths, sizeOf, boxSize, actionSize}
 use Rattle.policy.specs.Ranges.{range, Region}
 use Rattle.policy.specs.Rules.{Rule, rule}
-use Rattle.policy.specs.Values.{ranges, rangeAt}
+use Rattle.policy.specs.Values.{ranges}
+use Rattle.policy.specs.Steps.{rangeAt}
 use Rattle.policy.proofs.Values.{ranges-length, ranges-at}
-use Rattle.wire.specs.Numbers.{numberBytes, numberIn, isWidth}
+use Rattle.wire.specs.Numbers.{numberBytes, numberIn}
+use Rattle.wire.specs.Steps.{isWidth}
 use Rattle.wire.specs.Records.{rangesBytes, rangesIn, boxBytes, boxIn, recordBytes, ruleIn}
 use Rattle.wire.proofs.Numbers.{numberBytes-length}
 use Rattle.wire.proofs.Records.{rangesBytes-length}

@@ -22,10 +22,7 @@ unfoldable pub lengthOf : {A : Type 0} → (A → List ℕ) → Outcome A → Ou
 lengthOf bytes (accepted a) = accepted (length (bytes a))
 lengthOf bytes (refused n) = refused n
 
--- Each byte from one place up to another taken from `by` places further up.
-unfoldable pub copiedDown : ℕ → ℕ → ℕ → List ℕ → List ℕ
-copiedDown by from to out = take from out ++ (take (to - from) (drop (by + from) out) ++ drop to out)
-
--- The first n bytes put `by` places further up.
-unfoldable pub copiedUp : ℕ → ℕ → List ℕ → List ℕ
-copiedUp by n out = take by out ++ (take n out ++ drop (by + n) out)
+-- Where the answer is a fixed number.
+unfoldable pub answered : {A : Type 0} → ℕ → Outcome A → Outcome ℕ
+answered n (accepted a) = accepted n
+answered n (refused m) = refused m

@@ -1,8 +1,6 @@
 -- Numbers in bytes, big-endian (01, Sheets). Assumes nothing.
 use mathlib.Core.List.{List, [], _∷_, _++_}
-use mathlib.Core.Bool.{Bool, _||_}
 use Prim.Native.Nat.{ℕ, zero, suc, _+_, _*_, _/_, _%_, _<_}
-use lib.Dec.{eqb}
 
 -- The w bytes of x, the highest first.
 unfoldable pub numberBytes : ℕ → ℕ → List ℕ
@@ -20,7 +18,3 @@ numberIn bs = numberFrom 0 bs
 -- What each number of a list must be for them to be bytes.
 abbrev pub Byte : ℕ → Type 0
 Byte b = b < 256
-
--- The widths that a field can have.
-unfoldable pub isWidth : ℕ → Bool
-isWidth w = eqb w 4 || (eqb w 2 || eqb w 1)

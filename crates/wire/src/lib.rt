@@ -12,9 +12,10 @@ ghost use lib.ListN.{length, take, drop};
 ghost use lib.Seq.{sets};
 ghost use Rattle.policy.specs.Fields.{boxSize, recordSize, countSize};
 ghost use Rattle.policy.specs.Values.{regionOf, ruleOf};
-ghost use Rattle.wire.specs.Numbers.{numberBytes, numberIn, isWidth};
+ghost use Rattle.wire.specs.Numbers.{numberBytes, numberIn};
+ghost use Rattle.wire.specs.Steps.{isWidth, copiedDown, copiedUp};
 ghost use Rattle.wire.specs.Records.{boxBytes, boxIn, recordBytes, ruleIn};
-ghost use Rattle.wire.specs.Buffers.{zeroed, filled, copiedDown, copiedUp};
+ghost use Rattle.wire.specs.Buffers.{zeroed, filled};
 
 fn wide(x: u8) -> u32
     ensures { λ r. ⌜ (r ≡ x) × (r < 256) ⌝ }

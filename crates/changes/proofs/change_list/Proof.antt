@@ -4,7 +4,7 @@ use native.Mathlib.Omega.{arith}
 use mathlib.Core.Path.{_≡_, sym, _∙_}
 use lib.ListN.{length-take}
 use borrow.Author.Tests.{not-true, not-false}
-use Rattle.changes.specs.Changes.{putBy}
+use Rattle.changes.specs.Steps.{putBy}
 use Rattle.changes.proofs.Changes.{changed-no-place, changed-short, changed-done, put-long}
 use Rattle.changes.proofs.change_list.Statement.{statement}
 use Rattle.changes.proofs.change_list.Tie as tie

@@ -5,7 +5,7 @@ use mathlib.Core.Path.{sym, _∙_}
 use lib.ListN.{drop}
 use Rattle.policy.specs.Fields.{countSize}
 use Rattle.wire.proofs.Records.{rulesIn-length}
-use Rattle.sheet.specs.Readers.{rulesOf}
+use Rattle.sheet.specs.Steps.{rulesOf}
 use Rattle.sheet.proofs.Pairs.{denies-most}
 use Rattle.changes.proofs.Touched.{places-taken, places-put, places-kept}
 use Rattle.changes.proofs.places.Statement.{statement}

@@ -1,8 +1,7 @@
 -- `checked` meets its contract. Assumes nothing.
 use borrow.Author.Needs.{needs}
 use mathlib.Core.Path.{_∙_}
-use Rattle.policy.specs.Fields.{limits}
-use Rattle.groups.specs.Worked.{workSize}
+use Rattle.policy.specs.Fields.{limits, workSize}
 use Rattle.planner.proofs.Calls.{zeroed-same}
 use Rattle.checking.proofs.checked.Statement.{statement}
 use Rattle.checking.proofs.checked.Tie as tie

@@ -10,7 +10,7 @@ use Rattle.lists.proofs.Parts.{tail-whole}
 use Rattle.policy.specs.Fields.{countSize, limits}
 use Rattle.wire.proofs.Numbers.{bytes-all}
 use Rattle.sheet.proofs.Accepted.{PairAccepted, pair-refused, pair-accepted}
-use Rattle.draft.specs.Drafts.{draftSize}
+use Rattle.draft.specs.Steps.{draftSize}
 use Rattle.checking.proofs.Drafting.{draft-ready}
 use Rattle.checking.proofs.Checking.{check-refused, lists-inside, check-six, check-long, check-differs, check-passes}
 use Rattle.checking.proofs.compare.Statement.{statement}

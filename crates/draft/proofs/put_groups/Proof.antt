@@ -7,7 +7,7 @@ use lib.ListN.{length, take, drop, length-take, length-drop}
 use lib.Seq.{sets}
 use Rattle.policy.specs.Fields.{countSize}
 use Rattle.wire.proofs.Numbers.{bytes-all}
-use Rattle.draft.specs.Sheets.{Laid}
+use Rattle.draft.specs.Steps.{Laid}
 use Rattle.draft.proofs.Sheets.{groups-next, groups-all, laid-count, laid-next, laid-none}
 use Rattle.draft.proofs.put_groups.Statement.{statement}
 use Rattle.draft.proofs.put_groups.Tie as tie

@@ -11,7 +11,8 @@ use borrow.Author.Tests.{not-true, not-false}
 use Rattle.policy.specs.Fields.{fields, widths, highest}
 use Rattle.policy.specs.Ranges.{Region, Whole, within}
 use Rattle.policy.specs.Rules.{sound}
-use Rattle.policy.specs.Values.{regionOf, rangeAt, ruleOf}
+use Rattle.policy.specs.Values.{regionOf, ruleOf}
+use Rattle.policy.specs.Steps.{rangeAt}
 use Rattle.policy.specs.declared.Rule.{Rule}
 use Rattle.policy.proofs.Moves.{rule-proper, proper-whole}
 use Rattle.wire.proofs.Records.{sound-fits, fits-length}

@@ -3,7 +3,7 @@ use borrow.Author.Needs.{needs}
 use borrow.Author.Tests.{not-false}
 use Prim.Native.Nat.{_-_}
 use Rattle.policy.specs.Values.{regionOf}
-use Rattle.groups.specs.Stores.{Untouched}
+use Rattle.groups.specs.Steps.{Untouched}
 use Rattle.groups.proofs.Passes.{untouched-first, untouched-next}
 use Rattle.groups.proofs.first_touched.Statement.{statement}
 use Rattle.groups.proofs.first_touched.Tie as tie

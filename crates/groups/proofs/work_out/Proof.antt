@@ -7,7 +7,7 @@ use native.Mathlib.Omega.{arith}
 use lib.ListN.{drop}
 use Rattle.policy.specs.Fields.{boxSize}
 use Rattle.policy.specs.Values.{regionOf}
-use Rattle.groups.specs.Stores.{places}
+use Rattle.groups.specs.Steps.{places}
 use Rattle.groups.proofs.Works.{proper-at, Working, first-beyond, working-first, working-deny, working-over, working-next, working-done}
 use Rattle.groups.proofs.work_out.Statement.{statement}
 use Rattle.groups.proofs.work_out.Tie as tie

@@ -1,7 +1,6 @@
 -- `cell_list` meets its contract. Assumes nothing.
 use borrow.Author.Needs.{needs}
-use Rattle.policy.specs.Fields.{limits}
-use Rattle.groups.specs.Worked.{workSize}
+use Rattle.policy.specs.Fields.{limits, workSize}
 use Rattle.planner.specs.Calls.{checkOf, cellBytes, cellListSize}
 use Rattle.planner.proofs.Calls.{room-short, work-short, both-there, call-short}
 use Rattle.checking.proofs.Checking.{check-place}

@@ -5,7 +5,8 @@ use Prim.Native.Nat.{_+_, _*_, _≤_}
 use lib.ListN.{length, drop}
 use Rattle.policy.specs.Fields.{boxSize, countSize, recordSize}
 use Rattle.wire.proofs.Numbers.{bytes-all}
-use Rattle.listing.specs.Steps.{boxCount, groupRecords}
+use Rattle.listing.specs.Steps.{groupRecords}
+use Rattle.sheet.specs.Steps.{boxCount}
 use Rattle.listing.proofs.Listing.{Leads, leads-first, group-count, groups-next, groups-all}
 use Rattle.listing.proofs.deny_groups.Statement.{statement}
 use Rattle.listing.proofs.deny_groups.Tie as tie

@@ -1,7 +1,6 @@
 -- `gate_list` meets its contract. Assumes nothing.
 use borrow.Author.Needs.{needs}
-use Rattle.policy.specs.Fields.{limits}
-use Rattle.groups.specs.Worked.{workSize}
+use Rattle.policy.specs.Fields.{limits, workSize}
 use Rattle.planner.specs.Calls.{checkOf, gateBytes, gateListSize}
 use Rattle.planner.proofs.Calls.{room-short, work-short, both-there, call-short}
 use Rattle.listing.proofs.Listing.{gate-put, list-refused, list-written}

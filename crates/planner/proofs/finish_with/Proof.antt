@@ -10,9 +10,8 @@ use Rattle.lists.proofs.Parts.{tail-whole}
 use Rattle.policy.specs.Fields.{boxSize, countSize, limits}
 use Rattle.wire.specs.Numbers.{Byte}
 use Rattle.wire.proofs.Numbers.{bytes-all}
-use Rattle.draft.specs.Drafts.{draftSize, DraftedGroups}
-use Rattle.draft.specs.Arounds.{boxesBefore, runSize, slotsBehind, Behind}
-use Rattle.draft.specs.Sheets.{orderOf, groupsAt}
+use Rattle.draft.specs.Steps.{draftSize, DraftedGroups, runSize, slotsBehind, Behind, orderOf, groupsAt}
+use Rattle.sheet.specs.Steps.{boxCount}
 use Rattle.draft.specs.declared.Drafted.{Drafted}
 use Rattle.draft.specs.declared.Drafted.the-variants.{Groups}
 use Rattle.planner.specs.Steps.{Finishing}
@@ -57,7 +56,7 @@ module _ (c : tie.After-draft-groups) where
   behind : (r : Drafted) → c .draft-groups .result ≡ r → Behind (slotsBehind (k .before .before .args .around) (groups k) (drop countSize (list k))) (c .before .before .before .before .count-boxes .result) r made
   behind r e = finish-drafted (ready k) (all k) _ r _ _ _ _ _ e (rules k) (k .before .before .pre .1) (roomy k) (search needs) drafted
 
-  front : c .before .before .before .before .count-boxes .result ≡ boxesBefore (k .before .before .args .around .earlier) (groups k)
+  front : c .before .before .before .before .count-boxes .result ≡ boxCount (k .before .before .args .around .earlier) (groups k)
   front = c .before .before .before .before .count-boxes .ensures
 
 add-from : tie.Need-add-from

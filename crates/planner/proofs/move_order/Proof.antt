@@ -1,7 +1,6 @@
 -- `move_order` meets its contract. Assumes nothing.
 use borrow.Author.Needs.{needs}
-use Rattle.policy.specs.Fields.{limits}
-use Rattle.groups.specs.Worked.{workSize}
+use Rattle.policy.specs.Fields.{limits, workSize}
 use Rattle.sheet.specs.Pairs.{pairBytes, pairSize}
 use Rattle.planner.specs.Calls.{moveOf}
 use Rattle.planner.proofs.Calls.{room-short, work-short, both-there, call-short, call-done}

@@ -1,9 +1,8 @@
 -- `put_numbers` meets its contract: the lows, the highs and the action are stored one behind the other. Assumes nothing.
 use borrow.Author.Needs.{needs}
-use lib.ListN.{length-set}
+use lib.ListN.{length-set, length}
 use native.Mathlib.Omega.{arith}
 use mathlib.Core.Path.{_≡_}
-use lib.ListN.{length}
 use Rattle.policy.specs.Fields.{fields}
 use Rattle.records.proofs.Calls.{numbers-put}
 use Rattle.records.proofs.put_numbers.Statement.{statement}

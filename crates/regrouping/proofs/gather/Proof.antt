@@ -5,7 +5,7 @@ use mathlib.Core.Path.{_≡_}
 use mathlib.Core.Bool.{false}
 use Rattle.draft.proofs.Turns.{worked-few}
 use Rattle.draft.proofs.Drafts.{rules-sound-front}
-use Rattle.regrouping.specs.Regroups.{NoneDenies}
+use Rattle.regrouping.specs.Steps.{NoneDenies}
 use Rattle.regrouping.proofs.Joins.{denied-place, gathered-kept, gathered-over, gathered-past, join-ready, gathered-join}
 use Rattle.regrouping.proofs.gather.Statement.{statement}
 use Rattle.regrouping.proofs.gather.Tie as tie

@@ -10,13 +10,13 @@ use Rattle.lists.proofs.Parts.{tail-whole}
 use Rattle.policy.specs.Fields.{countSize}
 use Rattle.wire.specs.Numbers.{Byte}
 use Rattle.wire.proofs.Numbers.{bytes-all}
-use Rattle.draft.specs.Arounds.{boxesBefore, runSize, slotsBehind, Behind}
+use Rattle.draft.specs.Steps.{runSize, slotsBehind, Behind, partOf, orderOf, groupsAt}
+use Rattle.sheet.specs.Steps.{boxCount}
 use Rattle.draft.specs.declared.Drafted.{Drafted}
 use Rattle.draft.specs.declared.Drafted.the-variants.{Groups}
 use Rattle.draft.specs.declared.kept.Gap.{Gap}
-use Rattle.draft.specs.Sheets.{partOf, orderOf, groupsAt}
 use Rattle.planner.proofs.Finished.{order-bytes, own-few, finish-six, finish-seven, finish-end, finish-rest, finish-put, finish-accepted}
-use Rattle.regrouping.specs.Regroups.{Settling}
+use Rattle.regrouping.specs.Steps.{Settling}
 use Rattle.regrouping.proofs.Gaps.{groups-long, part-behind, gap-there, gap-boxes, gap-inside, gathering, gap-behind}
 use Rattle.regrouping.proofs.regroup.Statement.{statement}
 use Rattle.regrouping.proofs.regroup.Tie as tie
@@ -52,7 +52,7 @@ module _ (c : tie.After-find-gap) where
   abbrev gone : ℕ
   gone = k .before .before .args .around .later - k .before .before .args .around .earlier
 
-  found : (gap .at ≡ runSize (k .before .before .args .around .earlier) (groups k)) × (gap .next ≡ runSize (k .before .before .args .around .earlier + gone) (groups k)) × (gap .boxes + boxesBefore (k .before .before .args .around .earlier) (groups k) ≡ boxesBefore (k .before .before .args .around .earlier + gone) (groups k))
+  found : (gap .at ≡ runSize (k .before .before .args .around .earlier) (groups k)) × (gap .next ≡ runSize (k .before .before .args .around .earlier + gone) (groups k)) × (gap .boxes + boxCount (k .before .before .args .around .earlier) (groups k) ≡ boxCount (k .before .before .args .around .earlier + gone) (groups k))
   found = c .find-gap .ensures
 
   inside : from k + gap .next ≤ k .before .before .args .stands .used
@@ -69,7 +69,7 @@ module _ (c : tie.After-gather) where
   abbrev made : List ℕ
   made = c .gather .last .1 .1 .1 .1 .1 .0
 
-  behind : (r : Drafted) → c .gather .result ≡ r → Behind (slotsBehind (k g .before .before .args .around) (groups (k g)) (drop countSize (list (k g)))) (boxesBefore (k g .before .before .args .around .earlier) (groups (k g))) r made
+  behind : (r : Drafted) → c .gather .result ≡ r → Behind (slotsBehind (k g .before .before .args .around) (groups (k g)) (drop countSize (list (k g)))) (boxCount (k g .before .before .args .around .earlier) (groups (k g))) r made
   behind r e = gap-behind (ready (k g)) (gone g) refl (gap g) (found g) (all (k g)) _ _ (rules (k g)) (back g) _ r e (c .gather .ensures)
 
 add-from : tie.Need-add-from
@@ -148,7 +148,7 @@ module _ (c : tie.After-count-denies) where
   abbrev d : tie.After-gather
   d = c .before .before .before .before .before .before .before
 
-  told : Behind (slotsBehind (k (g d) .before .before .args .around) (groups (k (g d))) (drop countSize (list (k (g d))))) (boxesBefore (k (g d) .before .before .args .around .earlier) (groups (k (g d)))) (Groups (c .before .before .before .sum .given .0 .0) (c .before .before .before .sum .given .0 .1 .0)) (made d)
+  told : Behind (slotsBehind (k (g d) .before .before .args .around) (groups (k (g d))) (drop countSize (list (k (g d))))) (boxCount (k (g d) .before .before .args .around .earlier) (groups (k (g d)))) (Groups (c .before .before .before .sum .given .0 .0) (c .before .before .before .sum .given .0 .1 .0)) (made d)
   told = behind d _ (c .before .before .before .sum .given .1)
 
 sub-rest : tie.Need-sub-rest

@@ -12,11 +12,11 @@ use Rattle.wire.specs.Numbers.{Byte}
 use Rattle.wire.specs.Lists.{listBytes}
 use Rattle.wire.proofs.Numbers.{bytes-all, bytes-take}
 use Rattle.sheet.specs.Pairs.{pairBytes, pairSize}
-use Rattle.sheet.specs.Readers.{rulesOf}
+use Rattle.sheet.specs.Steps.{rulesOf}
 use Rattle.sheet.proofs.Accepted.{PairAccepted, ListAccepted, pair-refused, pair-accepted, list-refused, list-accepted}
 use Rattle.planner.specs.declared.Change.{Change}
 use Rattle.planner.proofs.Finished.{refuses}
-use Rattle.changes.specs.Changes.{changedBytes, ListChanged}
+use Rattle.changes.specs.Steps.{changedBytes, ListChanged}
 use Rattle.revising.proofs.Revised.{pair-faulty}
 use Rattle.revising.proofs.Parts.{gate-bytes}
 use Rattle.revising.proofs.Gate.{gate-there, gate-size, gate-refused, gate-end, gate-faulty, gate-places, gate-settling, gate-done}

@@ -8,7 +8,7 @@ use Rattle.lists.specs.Lists.{every}
 use Rattle.policy.specs.Fields.{countSize, recordSize}
 use Rattle.policy.specs.Rules.{sound}
 use Rattle.wire.specs.Records.{rulesIn}
-use Rattle.sheet.specs.Readers.{rulesOf}
+use Rattle.sheet.specs.Steps.{rulesOf}
 use Rattle.sheet.proofs.Loops.{rules-left, no-rules, every-stops, every-goes, every-ends}
 use Rattle.sheet.proofs.all_sound.Statement.{statement}
 use Rattle.sheet.proofs.all_sound.Tie as tie

@@ -8,7 +8,7 @@ use lib.ListN.{length, drop}
 use Rattle.policy.specs.Fields.{countSize, recordSize}
 use Rattle.policy.specs.Rules.{denies}
 use Rattle.wire.specs.Records.{rulesIn}
-use Rattle.sheet.specs.Readers.{rulesOf}
+use Rattle.sheet.specs.Steps.{rulesOf}
 use Rattle.sheet.proofs.Loops.{rules-left, no-rules, deny-counts, allow-skips, no-denies}
 use Rattle.sheet.proofs.count_denies.Statement.{statement}
 use Rattle.sheet.proofs.count_denies.Tie as tie

@@ -2,7 +2,7 @@
 use borrow.Author.Needs.{needs}
 use native.Mathlib.Omega.{arith}
 use Prim.Native.Nat.{_-_, _≤_}
-use Rattle.sheet.specs.Readers.{withTotal}
+use Rattle.sheet.specs.Steps.{withTotal}
 use Rattle.sheet.proofs.GroupReader.{GroupsLeft, groups-first, groups-stop, groups-next, groups-done}
 use Rattle.sheet.proofs.read_groups.Statement.{statement}
 use Rattle.sheet.proofs.read_groups.Tie as tie

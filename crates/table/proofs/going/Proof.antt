@@ -3,7 +3,7 @@ use borrow.Author.Needs.{needs}
 use mathlib.Core.Path.{refl}
 use borrow.Author.Tests.{lt-ltb, le-ltb}
 use Rattle.filter.specs.Lookup.{lookupNumber}
-use Rattle.table.specs.Table.{goingOn}
+use Rattle.table.specs.Steps.{goingOn}
 use Rattle.table.proofs.going.Statement.{statement}
 use Rattle.table.proofs.going.Tie as tie
 

@@ -44,7 +44,7 @@ use Rattle.policy.specs.declared.Rule.{Rule}
 use Rattle.policy.specs.declared.Packet.{Packet}
 use Rattle.policy.specs.Fields.{limits}
 use Rattle.policy.specs.Values.{ruleOf, packetOf}
-use Rattle.table.specs.Table.{blank}
+use Rattle.table.specs.Steps.{blank}
 use Rattle.policy.proofs.Packet as K
 use Rattle.policy.proofs.Packet.Laws as K′
 use Rattle.table.proofs.Turns.{judged}

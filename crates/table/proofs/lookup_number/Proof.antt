@@ -52,7 +52,8 @@ use Rattle.policy.proofs.Rule as T
 use Rattle.policy.proofs.Packet as K
 use Rattle.policy.proofs.Packet.Laws as K′
 use Rattle.filter.specs.Lookup.{lookupNumber}
-use Rattle.table.specs.Table.{blank, counted, goingOn, lookupTable}
+use Rattle.table.specs.Table.{lookupTable}
+use Rattle.table.specs.Steps.{blank, counted, goingOn}
 use Rattle.table.proofs.Turns.{judged, Reached, going-within, reached-first, reached-next, reached-last}
 use Rattle.table.proofs.opening as opening
 use Rattle.table.proofs.opening.Symbol as opening-def

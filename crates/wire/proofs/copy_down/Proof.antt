@@ -4,7 +4,7 @@ use mathlib.Core.Path.{_≡_, refl, ap, _∙_}
 use Prim.Native.Nat.{ℕ, _+_, _-_, _<_, _≤_}
 use native.Mathlib.Omega.{arith}
 use lib.ListN.{length}
-use Rattle.wire.specs.Buffers.{copiedDown}
+use Rattle.wire.specs.Steps.{copiedDown}
 use Rattle.wire.proofs.Copies.{down-none, down-read, down-next}
 use Rattle.wire.proofs.copy_down.Statement.{statement}
 use Rattle.wire.proofs.copy_down.Tie as tie

@@ -4,14 +4,15 @@ use native.Mathlib.Omega.{arith}
 use mathlib.Core.Path.{_≡_}
 use Prim.Native.Nat.{_+_, _≤_}
 use lib.ListN.{length, drop}
-use Rattle.draft.specs.Arounds.{boxesBefore, runSize}
+use Rattle.draft.specs.Steps.{runSize}
+use Rattle.sheet.specs.Steps.{boxCount}
 use Rattle.draft.proofs.Runs.{boxes-next, boxes-none}
 use Rattle.draft.proofs.kept.count_boxes.Statement.{statement}
 use Rattle.draft.proofs.kept.count_boxes.Tie as tie
 
 abbrev Inv-loop : tie.InvT-loop
 Inv-loop s n boxes₀ at₀ left₀ boxes at left =
-    (at + runSize left (drop at s) ≡ runSize n s) × (boxes + boxesBefore left (drop at s) ≡ boxesBefore n s) × (runSize n s ≤ length s)
+    (at + runSize left (drop at s) ≡ runSize n s) × (boxes + boxCount left (drop at s) ≡ boxCount n s) × (runSize n s ≤ length s)
 
 abbrev μ-loop : tie.MeasureT-loop
 μ-loop s n boxes₀ at₀ left₀ boxes at left = left

@@ -5,7 +5,8 @@ use mathlib.Core.Path.{_≡_, refl, ap}
 use Prim.Native.Nat.{ℕ, _+_, _*_, _≤_}
 use lib.ListN.{length}
 use Rattle.policy.specs.Fields.{boxSize, countSize}
-use Rattle.draft.specs.Arounds.{boxesBefore, runSize}
+use Rattle.draft.specs.Steps.{runSize}
+use Rattle.sheet.specs.Steps.{boxCount}
 use Rattle.draft.proofs.Runs.{part-inside, part-boxes, part-there}
 use Rattle.draft.proofs.kept.find_gap.Statement.{statement}
 use Rattle.draft.proofs.kept.find_gap.Tie as tie
@@ -19,7 +20,7 @@ place : (c : tie.After-count-boxes) → countSize * c .before .before .args .ear
 place c = ap (λ (n : ℕ). countSize * c .before .before .args .earlier + boxSize * n) (c .count-boxes .ensures)
 
 -- the boxes that go, and those before them
-gone : (c : tie.After-count-boxes2) → c .count-boxes2 .result + boxesBefore (c .before .before .before .before .args .earlier) (c .before .before .before .before .args .groups .now) ≡ boxesBefore (c .before .before .before .before .args .earlier + c .before .before .before .before .args .gone) (c .before .before .before .before .args .groups .now)
+gone : (c : tie.After-count-boxes2) → c .count-boxes2 .result + boxCount (c .before .before .before .before .args .earlier) (c .before .before .before .before .args .groups .now) ≡ boxCount (c .before .before .before .before .args .earlier + c .before .before .before .before .args .gone) (c .before .before .before .before .args .groups .now)
 gone c = rw (c .count-boxes2 .ensures) (part-boxes (c .before .before .before .before .args .earlier) (c .before .before .before .before .args .gone) (c .before .before .before .before .args .groups .now) (c .before .before .before .before .pre) _ (place (c .before .before)))
 
 count-boxes-requires : tie.Need-count-boxes-requires

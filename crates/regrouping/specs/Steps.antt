@@ -5,16 +5,13 @@ use mathlib.Core.Bool.{Bool, true, false}
 use Prim.Native.Nat.{ℕ, _+_, _*_, _≤_, _<_}
 use lib.ListN.{length, take, drop}
 use Rattle.lists.specs.Lists.{every}
-use Rattle.policy.specs.Fields.{boxSize, countSize, recordSize, limits}
+use Rattle.policy.specs.Fields.{boxSize, countSize, recordSize, limits, workSize}
 use Rattle.policy.specs.Rules.{isAllow, sound}
-use Rattle.policy.specs.Move.{Slot, together, anyOver}
 use Rattle.wire.specs.Numbers.{numberBytes}
 use Rattle.wire.specs.Records.{ruleIn, rulesIn}
-use Rattle.groups.specs.Worked.{workSize}
 use Rattle.sheet.specs.Pairs.{groupSize, groupsBytes}
-use Rattle.draft.specs.Drafts.{stretch, slotGroups}
-use Rattle.draft.specs.Arounds.{boxesBefore, runSize}
-use Rattle.draft.specs.Sheets.{groupsAt}
+use Rattle.draft.specs.Steps.{stretch, slotGroups, Told, Begins, runSize, groupsAt}
+use Rattle.sheet.specs.Steps.{boxCount}
 use Rattle.draft.specs.declared.Drafted.{Drafted}
 use Rattle.draft.specs.declared.Drafted.the-variants.{Groups, TooManyPieces}
 use Rattle.draft.specs.declared.Around.{Around}
@@ -49,23 +46,14 @@ pub record Gathering (rules : List ℕ) (place to boxes : ℕ) (back work : List
   pub size : length back ≤ countSize * limits .gate + boxSize * boxes
   pub workRoom : workSize limits ≤ length work
 
--- Number 6, or how many boxes there then are and, while they are within the total, the bytes: those of the group, and behind them
--- those of the kept ones.
-unfoldable pub Joined : List Slot → ℕ → List ℕ → Drafted → List ℕ → Type 0
-Joined l boxes back TooManyPieces s = anyOver (limits .pieces) l ≡ true
-Joined l boxes back (Groups b n) s =
-    (anyOver (limits .pieces) l ≡ false)
-    × (b ≡ boxes + length (together (slotGroups l)))
-    × (b ≤ limits .total → (n ≤ length s) × (take n s ≡ groupsBytes (slotGroups l) ++ back))
-
 -- The boxes counted, also those past what fits, stay few enough to be added to.
 abbrev pub FewBoxes : Drafted → Type 0
 FewBoxes (Groups b n) = b ≤ limits .total + limits .pieces
 FewBoxes TooManyPieces = Unit {0}
 
--- What it answers and leaves.
+-- What it answers and leaves: while the boxes are within the total, the bytes of the group, and behind them those of the kept ones.
 pub record Gathered (rules : List ℕ) (place to boxes : ℕ) (back work : List ℕ) (r : Drafted) (work′ : List ℕ) : Type 0 where
-  pub joined : Joined (stretch place to rules) boxes back r work′
+  pub joined : Told limits (stretch place to rules) boxes (Begins work′ (groupsBytes (slotGroups (stretch place to rules)) ++ back)) r
   pub few : FewBoxes r
   pub beyond : drop (workSize limits) work′ ≡ drop (workSize limits) work
 
@@ -74,5 +62,5 @@ pub record Gathered (rules : List ℕ) (place to boxes : ℕ) (back work : List 
 pub record Settling (sheet : List ℕ) (t : Standing) (list : List ℕ) (gate own : ℕ) (v : Around) (boxes : ℕ) (work : List ℕ) : Type 0 where
   pub finishing : Finishing sheet t list gate own v work
   pub wide : v .place + 1 < v .to → AllAnew v
-  pub all : boxes ≡ boxesBefore (v .groups) (groupsAt t sheet)
+  pub all : boxes ≡ boxCount (v .groups) (groupsAt t sheet)
   pub exact : length (groupsAt t sheet) ≡ runSize (v .groups) (groupsAt t sheet)

@@ -1,5 +1,4 @@
--- The code's verdict on a packet, and first match, read as what a lookup comes to. Assumes nothing.
-use Rattle.policy.specs.Rules.{Found, found, nothing}
+-- The code's verdict on a packet, read as what a lookup comes to. Assumes nothing.
 use Rattle.policy.specs.Refusals.{Outcome, accepted, refused, numberOf}
 use Rattle.filter.specs.Lookup.{Hit, hit}
 use Rattle.filter.specs.declared.Verdict.{Verdict}
@@ -9,8 +8,3 @@ use Rattle.filter.specs.declared.Verdict.the-variants.{Decided, Refused}
 abbrev pub verdict : Verdict → Outcome Hit
 verdict (Decided place action) = accepted (hit place action)
 verdict (Refused f) = refused (numberOf f)
-
--- What first match comes to in a lookup: the rule that decides, or 5 where none fits.
-abbrev pub decidedBy : Found → Outcome Hit
-decidedBy (found place action) = accepted (hit place action)
-decidedBy nothing = refused 5

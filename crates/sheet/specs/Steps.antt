@@ -7,22 +7,22 @@ use lib.ListN.{length, drop}
 use Rattle.policy.specs.Fields.{boxSize, countSize, Limits, limits}
 use Rattle.policy.specs.Ranges.{Region}
 use Rattle.policy.specs.Rules.{Rule, denies}
-use Rattle.policy.specs.Refusals.{Outcome, accepted, refused, andThen, numberOf}
+use Rattle.policy.specs.Refusals.{Outcome, accepted, refused, numberOf}
 use Rattle.policy.specs.Move.{Order, Pair, together}
 use Rattle.wire.specs.Records.{rulesIn}
 use Rattle.sheet.specs.Sections.{Reading, reading, section}
-use Rattle.sheet.specs.Orders.{order, orderIn, listIn}
+use Rattle.sheet.specs.Orders.{order, listsIn, orderIn, listIn}
 use Rattle.sheet.specs.Pairs.{groupSize, groupBoxes, groupsIn, pairIn}
 use Rattle.sheet.specs.declared.Section.{Section}
-use Rattle.sheet.specs.declared.Section.the-variants as S
 use Rattle.sheet.specs.declared.Lists.{Lists}
-use Rattle.sheet.specs.declared.Lists.the-variants as L
 use Rattle.sheet.specs.declared.Groups.{Groups}
-use Rattle.sheet.specs.declared.Groups.the-variants as G
 use Rattle.sheet.specs.declared.OrderParts.{OrderParts}
-use Rattle.sheet.specs.declared.OrderParts.the-variants as O
 use Rattle.sheet.specs.declared.PairParts.{PairParts}
 use Rattle.wire.specs.Lists.{countIn, listSize}
+use Rattle.sheet.specs.declared.Section.the-variants as S
+use Rattle.sheet.specs.declared.Lists.the-variants as L
+use Rattle.sheet.specs.declared.Groups.the-variants as G
+use Rattle.sheet.specs.declared.OrderParts.the-variants as O
 use Rattle.sheet.specs.declared.PairParts.the-variants as P
 
 -- The rules of the section that the bytes begin with.
@@ -65,13 +65,7 @@ pub record ListRead (most : ℕ) (s : List ℕ) (r : Section) : Type 0 where
   pub says : listHeard s r ≡ listIn most s
   pub place : ListPlaced most s r
 
--- Sections A and B, which every sheet begins with, and the bytes behind them: B begins wherever A ends.
-unfoldable pub listsIn : Limits → List ℕ → Outcome (Reading Order)
-listsIn lim s =
-    andThen (section (lim .gate) s)
-    (λ a. andThen (section (lim .own) (a .rest)) (λ b. accepted (reading (order (a .value) (b .value)) (b .rest))))
-
--- The two lists, where B begins at `middle`.
+-- Sections A and B, where B begins at `middle`.
 abbrev pub listsOf : ℕ → ℕ → ℕ → List ℕ → Order
 listsOf n m middle s = order (rulesOf n s) (rulesOf m (drop middle s))
 
@@ -116,13 +110,17 @@ unfoldable pub groupsFrom : ℕ → List ℕ → List (List Region)
 groupsFrom zero s = []
 groupsFrom (suc n) s = groupBoxes s ∷ groupsFrom n (drop (groupSize (countIn s)) s)
 
--- Groups: how many boxes they have together, and the bytes behind them from `next` on.
+-- How many boxes they have together.
+abbrev pub boxCount : ℕ → List ℕ → ℕ
+boxCount n s = length (together (groupsFrom n s))
+
+-- Groups: how many boxes they have, and the bytes behind them from `next` on.
 unfoldable pub groupsHeard : ℕ → List ℕ → Groups → Outcome (Reading (List (List Region)))
 groupsHeard n s (G.Boxes count next) = accepted (reading (groupsFrom n s) (drop next s))
 groupsHeard n s (G.Fault f) = refused (numberOf f)
 
 pub record GroupsPlace (most n total : ℕ) (s : List ℕ) (count next : ℕ) : Type 0 where
-  pub boxes : count ≡ length (together (groupsFrom n s))
+  pub boxes : count ≡ boxCount n s
   pub end : next ≡ countSize * n + boxSize * count
   pub inside : next ≤ length s
   pub limit : total + count ≤ most

@@ -1,0 +1,18 @@
+-- The words in which the inner functions that write bytes say what they leave. Assumes nothing.
+use mathlib.Core.List.{List, _++_}
+use mathlib.Core.Bool.{Bool, _||_}
+use Prim.Native.Nat.{ℕ, _+_, _-_}
+use lib.Dec.{eqb}
+use lib.ListN.{take, drop}
+
+-- The widths that a field can have.
+unfoldable pub isWidth : ℕ → Bool
+isWidth w = eqb w 4 || (eqb w 2 || eqb w 1)
+
+-- Each byte from one place up to another taken from `by` places further up.
+unfoldable pub copiedDown : ℕ → ℕ → ℕ → List ℕ → List ℕ
+copiedDown by from to out = take from out ++ (take (to - from) (drop (by + from) out) ++ drop to out)
+
+-- The first n bytes put `by` places further up.
+unfoldable pub copiedUp : ℕ → ℕ → List ℕ → List ℕ
+copiedUp by n out = take by out ++ (take n out ++ drop (by + n) out)
