@@ -4,8 +4,9 @@
  * How to call it
  *
  * A buffer is handed over as where it begins and how long it is. No two buffers of one call may
- * overlap, and also an empty one needs a pointer that is valid. A buffer may be longer than needed; what lies behind the end named
- * at the call is never changed. Nothing is remembered from one call to the next.
+ * overlap, and also an empty one needs a pointer that is valid. A buffer may be longer than needed;
+ * what lies behind the end named at the call is never changed. Nothing is remembered from one call
+ * to the next, so calls with buffers of their own may run at the same time.
  *
  * Every call answers one number: a value below FOLDPLOVER_REFUSED, or FOLDPLOVER_REFUSED plus one
  * of the refusals below. A refused call leaves every output as it was, the pair sheet of a refused
@@ -19,8 +20,15 @@
  * protocol (1), then the action (1): 0 denies, 1 allows. A box is a record without its action. A
  * list is a two-byte count and its records. An order sheet is two lists, A (gate rules) and B (the
  * cell's own rules). A pair sheet is an order sheet, a two-byte count of groups, and for each group
- * a two-byte count and its boxes: one group for each deny rule of A. docs/FORMATS.md has all of it
- * in tables.
+ * a two-byte count and its boxes: one group for each deny rule of A. So a pair sheet begins with
+ * its order sheet. docs/FORMATS.md has all of it in tables.
+ *
+ * Loading
+ *
+ * After a move load the cell list first, then the gate list: in between the pair forwards what it
+ * forwarded before. To go back load the gate's old list first. After an edit only the cell list has
+ * changed. A move is right only where every packet behind the gate passes this cell filter.
+ * docs/FORMATS.md, section 7, says why, and section 8 has stack, time and linking.
  *
  * In what order faults are found
  *
@@ -30,6 +38,9 @@
  * full (INCOMPLETE). Reading the groups: their count there (MISSING) and right (GROUPS); for each
  * group its count there (MISSING), boxes so far and own rules not over 1,024 (TOO_MANY_BOXES), its
  * boxes there (MISSING), each box (BAD_RULE). Where the input should end: nothing more (MISSING).
+ *
+ * At the calls 'reading {2, 3, 4, 5}' stands for this: which of these numbers is given depends on
+ * where the first fault lies in the input, not on the order in which they are written.
  */
 #ifndef FOLDPLOVER_H
 #define FOLDPLOVER_H
@@ -80,21 +91,23 @@ enum foldplover_refusal {
  * Moves the gate's policy: reads an order sheet, writes the pair sheet it gives.
  *
  * Answers the pair sheet's length. sheet: the pair sheet, zero from there up to 28,742.
- * Refuses in this order: 1 (sheet, work); reading the order sheet 3, 2, 4, 5; then 6; then 7.
+ * Refuses in this order: 1 (sheet, work); reading the order sheet {2, 3, 4, 5}; then 6; then 7.
  */
 uint32_t foldplover_move(const uint8_t *order, size_t order_len,
                          uint8_t *sheet, size_t sheet_len,
                          uint8_t *work, size_t work_len);
 
 /*
- * Puts a record in before the rule at a place of A or B; the place after the last rule counts.
+ * Puts a record in before the rule at a place of A or B; the place after the last rule counts, and
+ * a record put in there has to be a full rule, since the list has to end in one.
  *
- * The pair sheet is the first used bytes of sheet. Answers its new length. sheet: the edited pair
- * sheet, zero from there up to 28,742. Groups before the place stay as they stand, and so do those
- * after it if the record is a deny; its own group, and after an allow all later ones, are worked
- * out anew. An insert in B keeps all groups. Groups are not compared with A here.
- * Refuses in this order: 1 (sheet, work, used above sheet_len); reading the pair sheet 3, 2, 4, 5,
- * 8, 7; then 9 (list, place); 3 (record not of 27 bytes); 2 (one rule too many); 4 (the record);
+ * The pair sheet is the first used bytes of sheet: used is what move or the last accepted edit
+ * answered. Answers its new length. sheet: the edited pair sheet, zero from there up to 28,742.
+ * Groups before the place stay as they stand, and so do those after it if the record is a deny;
+ * its own group, and after an allow all later ones, are worked out anew. An insert in B keeps all
+ * groups. Groups are not compared with A here.
+ * Refuses in this order: 1 (sheet, work, used above sheet_len); reading the pair sheet {2, 3, 4, 5,
+ * 7, 8}; then 9 (list, place); 3 (record not of 27 bytes); 2 (one rule too many); 4 (the record);
  * 5 (last rule of the edited list); 6 (groups worked out anew); 7 (all groups with B).
  */
 uint32_t foldplover_insert(uint8_t *sheet, size_t sheet_len, size_t used,
@@ -107,7 +120,7 @@ uint32_t foldplover_insert(uint8_t *sheet, size_t sheet_len, size_t used,
  *
  * Answers and leaves what foldplover_insert does. In A groups before the place stay; those after
  * it stay if a deny is taken out, and are worked out anew if an allow is. In B all groups stay.
- * Refuses in this order: 1; reading 3, 2, 4, 5, 8, 7; then 9; 2 (the only rule); 5; 6; 7.
+ * Refuses in this order: 1; reading {2, 3, 4, 5, 7, 8}; then 9; 2 (the only rule); 5; 6; 7.
  */
 uint32_t foldplover_delete(uint8_t *sheet, size_t sheet_len, size_t used,
                            uint32_t list, size_t place,
@@ -119,7 +132,7 @@ uint32_t foldplover_delete(uint8_t *sheet, size_t sheet_len, size_t used,
  * Answers and leaves what foldplover_insert does. In A groups before the place stay; those after
  * it stay if neither the old rule nor the new one is an allow; the group of a deny put in is
  * always worked out anew. In B all groups stay.
- * Refuses in this order: 1; reading 3, 2, 4, 5, 8, 7; then 9; 3; 4; 5; 6; 7.
+ * Refuses in this order: 1; reading {2, 3, 4, 5, 7, 8}; then 9; 3; 4; 5; 6; 7.
  */
 uint32_t foldplover_replace(uint8_t *sheet, size_t sheet_len, size_t used,
                             uint32_t list, size_t place,
@@ -130,7 +143,7 @@ uint32_t foldplover_replace(uint8_t *sheet, size_t sheet_len, size_t used,
  * Says whether sheet is a pair sheet whose groups are what its section A gives.
  *
  * sheet_len is the pair sheet's own length: bytes behind it are left over. Answers 0.
- * Refuses in this order: 1 (work); reading the pair sheet 3, 2, 4, 5, 8, 7; then 6; then 8.
+ * Refuses in this order: 1 (work); reading the pair sheet {2, 3, 4, 5, 7, 8}; then 6; then 8.
  */
 uint32_t foldplover_check(const uint8_t *sheet, size_t sheet_len,
                           uint8_t *work, size_t work_len);
@@ -169,8 +182,15 @@ uint32_t foldplover_lookup(uint32_t src, uint32_t dst, uint32_t sport, uint32_t 
                            uint32_t proto,
                            const uint8_t *list, size_t list_len);
 
-/* A rule in memory, fields in the order source, destination, source port, destination port,
- * protocol. The call foldplover_rule has the same name: write struct foldplover_rule. */
+/*
+ * A rule in memory, fields in the order source, destination, source port, destination port,
+ * protocol: the eleven numbers of the record calls in their order, 44 bytes without gaps. Between
+ * the struct and an array of eleven numbers, copy the 44 bytes with memcpy; C does not let a
+ * pointer into low reach beyond its five numbers.
+ *
+ * The call foldplover_rule has the same name. The type is always written struct foldplover_rule, in
+ * C++ too: foldplover_rule alone is the call.
+ */
 struct foldplover_rule {
     uint32_t low[5];
     uint32_t high[5];
@@ -194,7 +214,7 @@ uint32_t foldplover_lookup_table(uint32_t src, uint32_t dst, uint32_t sport, uin
  *
  * Answers the A list's length; the B list has the rest of order_len. a: the A list, zero from
  * there up to 1,730. b: the B list, zero from there up to 6,914.
- * Refuses in this order: 1 (a, b); reading the whole order sheet 3, 2, 4, 5.
+ * Refuses in this order: 1 (a, b); reading the whole order sheet {2, 3, 4, 5}.
  */
 uint32_t foldplover_split(const uint8_t *order, size_t order_len,
                           uint8_t *a, size_t a_len,
@@ -204,7 +224,8 @@ uint32_t foldplover_split(const uint8_t *order, size_t order_len,
  * Joins an A list and a B list into an order sheet.
  *
  * Answers the order sheet's length. order: the sheet, zero from there up to 8,644.
- * Refuses in this order: 1 (order); reading A whole 3, 2, 4, 5, left over 3; then B likewise.
+ * Refuses in this order: 1 (order); reading the A list {2, 3, 4, 5} to its end, where bytes left
+ * over are 3; then the B list likewise.
  */
 uint32_t foldplover_join(const uint8_t *a, size_t a_len,
                          const uint8_t *b, size_t b_len,
