@@ -1,4 +1,5 @@
-/* From an order sheet in a file to the two lists to load, each in a file: desk ORDER GATE CELL */
+/* From an order sheet in a file to the two lists to load, each in a file: desk ORDER GATE CELL
+ * Load CELL first, then GATE: in between the two filters forward what they forwarded before. */
 #include <stdio.h>
 
 #include "foldplover.h"
