@@ -7,7 +7,7 @@ use Prim.Native.Nat.{ℕ, zero, suc, _+_, _<_, _≤_}
 use native.Mathlib.Omega.{arith}
 use lib.Dec.{leb, ltb, eqb}
 use lib.ListN.{length, take, drop, length-append, length-take, length-drop}
-use lib.Seq.{take-at}
+use lib.Seq.{take-at, length-take-le}
 use borrow.Author.Tests.{le-leb, le-ltb, eqb-true, eqb-false, eq-eqb, ne-eqb}
 use Rattle.lists.proofs.Tests.{and-true}
 use Rattle.lists.specs.Lists.{Each}
@@ -37,9 +37,10 @@ use Rattle.sheet.proofs.Pairs.{pair-back, pair-good, pair-written-back}
 use Rattle.sheet.proofs.Lengths.{other-length-refused}
 use Rattle.planner.specs.Calls.{planOf, moveOf, checkedOf, checkOf}
 use Rattle.planner.specs.Edits.{Asked, kindOf, editOf, wholeRecord, changeOf, editedOf}
-use Rattle.planner.specs.Theorems.{held, DemandTwo, CheckIsMove, OthersAsBefore}
+use Rattle.planner.specs.Theorems.{held, DemandTwo, CheckIsMove}
 use Rattle.planner.specs.declared.Change.{Change}
 use Rattle.planner.specs.declared.Change.the-variants.{Insert, Delete, Replace}
+use Rattle.planner.proofs.Edited.{edited-good}
 use Rattle.planner.proofs.Good.{moved-good, pair-short, gate-list-good, cell-list-good}
 
 unless-none : {A : Type 0} (n : ℕ) (a : A) → n ≡ 0 → unless n a ≡ accepted a
@@ -153,6 +154,10 @@ module _ (lim : Limits) (small : Small lim) where
   unfolding filled
   held-taken out o h = take-at (pairBytes (moved o)) _ (length (pairBytes (moved o))) refl
 
+  held-long : (out : List ℕ) (o : Order) → length (pairBytes (moved o)) ≤ length (held lim out (moved o) .buffer)
+  unfolding filled
+  held-long out o = rw length-append (omega arith)
+
   edits-moved : (out : List ℕ) (o : Order) (a : Asked) → moveRefusal lim o ≡ 0
       → editedOf lim (take (held lim out (moved o) .used) (held lim out (moved o) .buffer)) a ≡ changeOf lim a (moved o)
   unfolding editedOf
@@ -171,12 +176,13 @@ module _ (lim : Limits) (small : Small lim) where
       let u = unless-accepted (changeRefusal lim (editOf a) (moved o)) (g .1) in
       (sym (change-refuses-as-fresh lim (editOf a) o h) ∙ u .0, sym (u .1) ∙ edit-as-fresh (editOf a) o)
 
-  -- told any other length than the sheet's, reading refuses
-  pub other-length : (out : List ℕ) (o : Order) (n : ℕ) (a : Asked) → moveRefusal lim o ≡ 0 → n ≤ length (held lim out (moved o) .buffer)
-      → (n ≡ held lim out (moved o) .used → ⊥) → editedOf lim (take n (held lim out (moved o) .buffer)) a ≡ refused 3
+  -- a buffer that begins with a sheet, told any other length: reading refuses
+  pub other-length : (buffer : List ℕ) (n used : ℕ) (p : Pair) (a : Asked) → n ≤ length buffer → pairIn lim (take n buffer) ≡ accepted p → used ≤ length buffer
+      → (used ≡ n → ⊥) → editedOf lim (take used buffer) a ≡ refused 3
   unfolding editedOf
-  other-length out o n a h k d =
-      let x = other-length-refused lim (pairBytes (moved o)) (moved o) (held lim out (moved o) .buffer) n (sheet-back o h) (held-taken out o h) k d in
+  other-length buffer n used p a h e k d =
+      let l : length (take n buffer) ≡ n = length-take-le n buffer h in
+      let x = other-length-refused lim (take n buffer) p buffer used e (ap (λ (m : ℕ). take m buffer) l) k (λ z. d (z ∙ l)) in
       rw x refl
 
   -- Demand 3, an accepted edit: it was told the sheet's own length, and leaves the accepted move of the edited lists.
@@ -192,7 +198,10 @@ module _ (lim : Limits) (small : Small lim) where
           let c = change-accepted a o p h (sym (edits-moved out o a h) ∙ (same ∙ e)) in
           (c .0, held-over out o p h ∙ ap (held lim out) (c .1))
       go false i =
-          let z : _≡_ {A = ℕ} 0 1 = cc (sym (other-length out o n a h k (eqb-false n _ i)) ∙ e) in
+          let b : List ℕ = held lim out (moved o) .buffer in
+          let s = pairBytes (moved o) in
+          let reads : pairIn lim (take (length s) b) ≡ accepted (moved o) = rw (held-taken out o h) (sheet-back o h) in
+          let z : _≡_ {A = ℕ} 0 1 = cc (sym (other-length b (length s) n (moved o) a (held-long out o) reads k (eqb-false n _ i)) ∙ e) in
           absurd (omega arith)
 
   -- Demand 3, one edit with a place that exists and a whole record.
@@ -218,13 +227,18 @@ module _ (lim : Limits) (small : Small lim) where
       go false = (f .0, new (o .own) (f .1 .rules) (omega (arith, faultless (lim .own) (o .own) (m .own), small .own)))
 
   -- Demand 3, other rules' boxes: what an accepted edit of bytes is.
-  edited-is : (s : List ℕ) (a : Asked) (p q : Pair) → pairIn lim s ≡ accepted p → editedOf lim s a ≡ accepted q
-      → (placeFound (editOf a) (p .order) ≡ true) × (edited (editOf a) p ≡ q)
+  record EditedIs (a : Asked) (p q : Pair) : Type 0 where
+    pub place : placeFound (editOf a) (p .order) ≡ true
+    pub none : changeRefusal lim (editOf a) p ≡ 0
+    pub is : edited (editOf a) p ≡ q
+
+  accepted-edit : (s : List ℕ) (a : Asked) (p q : Pair) → pairIn lim s ≡ accepted p → editedOf lim s a ≡ accepted q → EditedIs a p q
   unfolding editedOf changeOf
-  edited-is s a p q r e =
+  accepted-edit s a p q r e =
       let f = test-accepted (leb (a .list) 1 && placeFound (editOf a) (p .order)) 9 _ (rw r at e) in
       let w = test-accepted (wholeRecord (a .change) (a .bytes)) 3 _ (f .1) in
-      (and-true (leb (a .list) 1) (placeFound (editOf a) (p .order)) (f .0) .1, unless-accepted (changeRefusal lim (editOf a) p) (w .1) .1)
+      let u = unless-accepted (changeRefusal lim (editOf a) p) (w .1) in
+      record { place = and-true (leb (a .list) 1) (placeFound (editOf a) (p .order)) (f .0) .1; none = u .0; is = u .1 }
 
   module _ (s : List ℕ) (a : Asked) (p q : Pair) (r : pairIn lim s ≡ accepted p) (e : editedOf lim s a ≡ accepted q) where
     abbrev kind : Kind
@@ -233,22 +247,24 @@ module _ (lim : Limits) (small : Small lim) where
     abbrev in-list : Bool → Pair
     in-list t = edited (record { inGate = t; place = a .place; kind = kind }) p
 
-    is : edited (editOf a) p ≡ q
-    is = edited-is s a p q r e .1
+    pub edited-is : edited (editOf a) p ≡ q
+    edited-is = accepted-edit s a p q r e .is
 
-    gate-edit-keeps-others : a .list ≡ 0 → DenyOnly (a .place) kind (p .order .gate) → OthersKept (a .place) kind p q
+    pub gate-edit-keeps-others : a .list ≡ 0 → DenyOnly (a .place) kind (p .order .gate) → OthersKept (a .place) kind p q
     gate-edit-keeps-others g d =
         let i : eqb (a .list) 0 ≡ true = eq-eqb (a .list) 0 g in
-        let place = sym (ap (λ (t : Bool). hasPlace (a .place) kind (cond t (p .order .gate) (p .order .own))) i) ∙ edited-is s a p q r e .0 in
-        subst (λ (x : Pair). OthersKept (a .place) kind p x) (sym (ap in-list i) ∙ is) (others-kept (a .place) kind p place (pair-good lim s p r (small .share) .counted) d)
+        let place = sym (ap (λ (t : Bool). hasPlace (a .place) kind (cond t (p .order .gate) (p .order .own))) i) ∙ accepted-edit s a p q r e .place in
+        subst (λ (x : Pair). OthersKept (a .place) kind p x) (sym (ap in-list i) ∙ edited-is) (others-kept (a .place) kind p place (pair-good lim s p r (small .share) .counted) d)
 
-    own-edit-keeps-groups : a .list ≡ 1 → q .groups ≡ p .groups
+    pub own-edit-keeps-groups : a .list ≡ 1 → q .groups ≡ p .groups
     own-edit-keeps-groups g =
         let i : eqb (a .list) 0 ≡ false = ne-eqb (a .list) 0 (λ z. omega arith) in
-        (λ t. sym is t .groups) ∙ (ap (λ (t : Bool). in-list t .groups) i ∙ kept-boxes (p .groups))
+        (λ t. sym edited-is t .groups) ∙ (ap (λ (t : Bool). in-list t .groups) i ∙ kept-boxes (p .groups))
 
-    pub others-as-before : OthersAsBefore p q a
-    others-as-before = record { lists = λ t. sym is t .order; gate = gate-edit-keeps-others; own = own-edit-keeps-groups }
+    pub edited-sheet : pairIn lim (pairBytes q) ≡ accepted q
+    edited-sheet =
+        let g = edited-good lim p (pair-good lim s p r (small .share)) (editOf a) (accepted-edit s a p q r e .none) in
+        subst (λ (x : Pair). pairIn lim (pairBytes x) ≡ accepted x) edited-is (pair-back lim (edited (editOf a) p) (omega (arith, small .gate)) (omega (arith, small .own)) (small .total) g)
 
   -- What check accepts is what a move of its lists writes.
   pub check-is-move : (s : List ℕ) (p : Pair) → Each Byte s → checkOf lim s ≡ accepted p → CheckIsMove lim s p

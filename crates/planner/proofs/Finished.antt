@@ -8,18 +8,17 @@ use lib.ListN.{length, take, drop, length-append, length-drop, length-map, take-
 use lib.Seq.{drop-at, take-add, take-take, length-take-le}
 use borrow.Author.Tests.{lt-ltb, le-ltb}
 use Rattle.lists.specs.Lists.{Each, every}
-use Rattle.lists.proofs.Lists.{each-append, each-drop, each-imp, map-append, append-none, every-each}
-use Rattle.policy.specs.Fields.{countSize, recordSize, highest, limits, workSize}
-use Rattle.policy.specs.Ranges.{Region, proper}
-use Rattle.policy.specs.Rules.{Rule, denies, allowsIn, sound, Proper}
+use Rattle.lists.proofs.Lists.{each-append, each-drop, map-append, append-none}
+use Rattle.policy.specs.Fields.{countSize, recordSize, limits, workSize}
+use Rattle.policy.specs.Ranges.{Region}
+use Rattle.policy.specs.Rules.{Rule, denies, sound}
 use Rattle.policy.specs.Refusals.{Outcome, refused, faults, numberOf}
-use Rattle.policy.specs.Move.{Slot, kept, slots, boxesOf, together, anyOver, work, room, Order, Pair, listRefusal}
+use Rattle.policy.specs.Move.{Slot, kept, boxesOf, together, anyOver, work, room, Order, Pair, listRefusal}
 use Rattle.policy.specs.declared.Answer.the-variants.{Length, Refused}
 use Rattle.policy.specs.declared.Refusal.{Refusal}
 use Rattle.policy.specs.declared.Refusal.the-variants.{TooManyBoxes}
 use Rattle.policy.proofs.Numbers.{orElse-zero}
-use Rattle.policy.proofs.Edits.{slots-append, kept-boxes, kept-over, over-append, together-append, faults-append, list-accepted}
-use Rattle.policy.proofs.Proper.{moved-proper}
+use Rattle.policy.proofs.Edits.{kept-boxes, kept-over, over-append, together-append, faults-append, list-accepted}
 use Rattle.wire.specs.Numbers.{Byte}
 use Rattle.wire.specs.Records.{rulesIn}
 use Rattle.wire.specs.Buffers.{filled, written, lengthOf}
@@ -31,13 +30,13 @@ use Rattle.sheet.specs.Steps.{rulesOf, listsOf, groupsFrom, boxCount}
 use Rattle.sheet.proofs.Outcomes.{faultless}
 use Rattle.sheet.proofs.Pairs.{ProperGroup, PairGood, denies-most}
 use Rattle.sheet.proofs.Accepted.{OrderAccepted, order-accepted}
-use Rattle.draft.specs.Steps.{alone, stretch, slotGroups, draftSize, Ready, DraftedGroups, partOf, sheetOf, orderOf, groupsAt, sheetAround, AroundPut, runSize, GroupsHeld, keptSlots, slotsBehind, slotsAround, Told, Behind}
+use Rattle.draft.specs.Steps.{stretch, slotGroups, draftSize, Ready, DraftedGroups, partOf, sheetOf, orderOf, groupsAt, sheetAround, AroundPut, runSize, GroupsHeld, keptSlots, slotsBehind, slotsAround, Told, Behind}
 use Rattle.draft.specs.declared.kept.Standing.{Standing}
 use Rattle.draft.specs.declared.Drafted.{Drafted}
 use Rattle.draft.specs.declared.Drafted.the-variants as D
 use Rattle.draft.proofs.Drawn.{drawn-behind}
 use Rattle.draft.proofs.Drafts.{groupsBytes-append, rules-front, rules-sound-front}
-use Rattle.planner.proofs.Good.{pair-short}
+use Rattle.planner.proofs.Good.{rest-proper, pair-short}
 use Rattle.planner.specs.Steps.{Writes, slotted, Finishing, Finishes, AllAnew}
 use Rattle.draft.specs.declared.Around.{Around}
 use Rattle.draft.proofs.Runs.{groups-count, held-front}
@@ -64,18 +63,9 @@ order-bytes list sheet t a b = each-append Byte list (partOf (t .middle) (t .thi
 
 -- groups worked out anew from rules without fault are proper
 stretch-proper : (i to : ℕ) (rules : List ℕ) → i ≤ to → faults (rulesIn to rules) ≡ 0 → Each ProperGroup (map boxesOf (stretch i to rules))
-unfolding allowsIn
 stretch-proper i to rules h f =
     let l : List Rule = rulesIn to rules in
-    let before : List Slot = slots alone [] (take i l) in
-    let e : slots alone [] l ≡ before ++ slots alone (allowsIn (take i l)) (drop i l) =
-    ap (slots alone []) (sym (take-append-drop i l)) ∙ slots-append alone [] (take i l) (drop i l) in
-    let m : map boxesOf (slots alone [] l) ≡ map boxesOf before ++ map boxesOf (slots alone (allowsIn (take i l)) (drop i l)) = ap (λ (x : List Slot). map boxesOf x) e ∙ map-append boxesOf before _ in
-    let o : Order = record { gate = l; own = [] } in
-    let p = each-drop (Each Proper) (length (map boxesOf before)) _ (moved-proper o f) in
-    let d : drop (length (map boxesOf before)) (map boxesOf (slots alone [] l)) ≡ map boxesOf (slots alone (allowsIn (take i l)) (drop i l)) =
-    ap (drop (length (map boxesOf before))) m ∙ drop-at (map boxesOf before) _ (length (map boxesOf before)) refl in
-    rw (rules-front i to rules h) at (each-imp (Each Proper) ProperGroup _ (λ g q. every-each (proper highest) g q) (rw d at p))
+    rw (rules-front i to rules h) at (rest-proper (record { gate = l; own = [] }) (take i l) (drop i l) (ap faults (take-append-drop i l) ∙ f))
 
 module _ {sheet list w : List ℕ} {t : Standing} {gate own : ℕ} {v : Around} (ready : Finishing sheet t list gate own v w) (bytes : Each Byte (orderOf list t sheet)) where
   abbrev middle : ℕ

@@ -1,22 +1,23 @@
 -- What an accepted move writes is a pair sheet: its groups are proper and counted, it fits its buffer, and its lists are lists.
 -- Assumes nothing.
 use mathlib.Core.Path.{_≡_, refl, ap, _∙_}
-use mathlib.Core.List.{List, [], _∷_, _++_}
+use mathlib.Core.List.{List, [], _∷_, _++_, map}
 use mathlib.Core.Bool.{true, false≢true}
 use Prim.Native.Nat.{ℕ, suc, _+_, _*_, _<_, _≤_}
 use native.Mathlib.Omega.{arith}
-use lib.ListN.{length, length-append, length-map}
+use lib.ListN.{length, drop, length-append, length-map}
+use lib.Seq.{drop-at}
 use borrow.Author.Tests.{ltb-false, le-ltb}
 use Rattle.lists.specs.Lists.{Each}
-use Rattle.lists.proofs.Lists.{each-append, each-imp, every-each}
+use Rattle.lists.proofs.Lists.{each-append, each-drop, each-imp, every-each, map-append}
 use Rattle.policy.specs.Fields.{highest, boxSize, countSize, Limits}
 use Rattle.policy.specs.Ranges.{Region, proper, everyField, fullOver}
-use Rattle.policy.specs.Rules.{Rule, sound, complete, Proper}
+use Rattle.policy.specs.Rules.{Rule, sound, complete, allowsIn, Proper}
 use Rattle.policy.specs.Refusals.{faults}
-use Rattle.policy.specs.Move.{slotsOf, startOf, boxesOf, together, work, room, Order, Pair, moved, denials, gateList, cellList, listRefusal, moveRefusal}
+use Rattle.policy.specs.Move.{Slot, slots, slotsOf, startOf, boxesOf, together, work, room, Order, Pair, moved, denials, gateList, cellList, listRefusal, moveRefusal}
 use Rattle.policy.proofs.Numbers.{orElse-zero, orElse-both, given-zero}
 use Rattle.policy.proofs.Proper.{moved-proper}
-use Rattle.policy.proofs.Edits.{move-accepted, list-accepted, slots-length, faults-append}
+use Rattle.policy.proofs.Edits.{slots-append, move-accepted, list-accepted, slots-length, faults-append}
 use Rattle.wire.proofs.Numbers.{numberBytes-length}
 use Rattle.sheet.specs.Orders.{orderBytes}
 use Rattle.sheet.specs.Pairs.{pairBytes, pairSize}
@@ -43,6 +44,17 @@ moved-good lim o h =
         within = omega arith;
       };
     }
+
+-- the groups of a list without fault, behind some of its rules
+pub rest-proper : (o : Order) (x l : List Rule) → faults (x ++ l) ≡ 0 → Each ProperGroup (map boxesOf (slots (startOf o) (allowsIn x) l))
+unfolding slots
+rest-proper o x l h =
+    let before : List (List Region) = map boxesOf (slots (startOf o) [] x) in
+    let whole : Order = record { gate = x ++ l; own = [] } in
+    let e : moved whole .groups ≡ before ++ map boxesOf (slots (startOf o) (allowsIn x) l) =
+    ap (λ (y : List Slot). map boxesOf y) (slots-append (startOf o) [] x l) ∙ map-append boxesOf (slots (startOf o) [] x) _ in
+    let d : drop (length before) (moved whole .groups) ≡ map boxesOf (slots (startOf o) (allowsIn x) l) = ap (drop (length before)) e ∙ drop-at before _ (length before) refl in
+    rw d at (each-drop ProperGroup (length before) _ (each-imp (Each Proper) ProperGroup _ (λ g q. every-each (proper highest) g q) (moved-proper whole h)))
 
 -- how long the bytes of a pair are
 module _ (lim : Limits) (p : Pair) (u : lim .gate < 65536) (v : lim .own < 65536) (good : PairGood lim p) where

@@ -1,4 +1,5 @@
 pub mod Good
+pub mod Edited
 pub mod Demands
 pub mod Theorems
 pub mod Calls

@@ -50,7 +50,10 @@ use Rattle.planner.proofs.Demands.{
   other-length,
   edit-done,
   edit-as-fresh-move,
-  others-as-before,
+  edited-is,
+  edited-sheet,
+  gate-edit-keeps-others,
+  own-edit-keeps-groups,
 }
 
 -- a call that was accepted was lent enough, and leaves the pair's sheet
@@ -159,16 +162,11 @@ refuses-length false x out left r h e f = (e, f)
 
 -- Demand 3, another length.
 pub untrue-length-refused : LengthTheorem
-untrue-length-refused o out l last x a used w left w′ r other y =
-    let d = run-ended o out l last x in
-    let now : Order = allDone (acceptedEdits l) o in
-    refuses-length (editLent (last .buffer) used w) (editedOf limits (take used (last .buffer)) a) (last .buffer) left r
+untrue-length-refused buffer w left w′ n used p a r long reads other y =
+    refuses-length (editLent buffer used w) (editedOf limits (take used buffer) a) buffer left r
     (λ lent.
-    let k = and-true (leb used (length (last .buffer))) _ (and-true (roomFor (pairSize limits) (last .buffer)) _ lent .1) in
-    let inside = leb-true used (length (last .buffer)) (k .0) in
-    let e = d .end in
-    subst (λ (h : Held). used ≤ length (h .buffer) → (used ≡ h .used → ⊥) → editedOf limits (take used (h .buffer)) a ≡ refused 3) e
-    (other-length limits limits-small out now used a (d .none)) inside other)
+    let k = and-true (leb used (length buffer)) _ (and-true (roomFor (pairSize limits) buffer) _ lent .1) in
+    other-length limits limits-small buffer n used p a long reads (leb-true used (length buffer) (k .0)) other)
     (y .answer) (y .result)
 
 -- the front of what is written does not hang on the buffer
@@ -220,7 +218,20 @@ unfolding editedOf
 edit-keeps-others buffer w left w′ used n a x =
     let m = accepts (editLent buffer used w) (editedOf limits (take used buffer) a) buffer left n (x .answer) (x .result) in
     let t = through (pairIn limits (take used buffer)) (changeOf limits a) (m .pair) (m .is) in
-    (t .value, m .pair, t .first, m .leaves, others-as-before limits limits-small (take used buffer) a (t .value) (m .pair) (t .first) (m .is))
+    let p = t .value in
+    let s = m .pair in
+    let is = edited-is limits limits-small (take used buffer) a p s (t .first) (m .is) in (
+      p,
+      s,
+      t .first,
+      m .leaves,
+      record {
+        lists = λ i. sym is i .order;
+        sheet = edited-sheet limits limits-small (take used buffer) a p s (t .first) (m .is);
+        gate = gate-edit-keeps-others limits limits-small (take used buffer) a p s (t .first) (m .is);
+        own = own-edit-keeps-groups limits limits-small (take used buffer) a p s (t .first) (m .is);
+      },
+    )
 
 pub planner-holds : PlannerTheorem
 planner-holds = record {

@@ -109,13 +109,13 @@ RunTheorem =
     → (w left w′ : List ℕ) (r : Answer) → roomFor (workSize limits) w ≡ true → Moves (orderBytes (allDone (acceptedEdits l) o)) out w r left w′
     → (r ≡ Length (last .used)) × (left ≡ last .buffer)
 
--- Such a buffer told any length but the one answered last: 1 where something lent is too short for what is said of it, else 3 by
--- reading, whatever the edit; and the buffer is as it was.
+-- Demand 3, the length: a buffer that begins with a pair sheet of n bytes, whoever wrote it, and is told any other length. The
+-- answer is 1 where something lent is too short for what is said of it, else 3 by reading, whatever the edit; and the buffer is as
+-- it was.
 abbrev pub LengthTheorem : Type 0
 LengthTheorem =
-    (o : Order) (out : List ℕ) (l : List EditCall) (last : Held) → MoveAndEdits o out l last
-    → (a : Asked) (used : ℕ) (w left w′ : List ℕ) (r : Answer) → (used ≡ last .used → ⊥) → Edits (last .buffer) used a w r left w′
-    → (said r ≡ refused (cond (editLent (last .buffer) used w) 3 1)) × (left ≡ last .buffer)
+    (buffer w left w′ : List ℕ) (n used : ℕ) (p : Pair) (a : Asked) (r : Answer) → n ≤ length buffer → pairIn limits (take n buffer) ≡ accepted p
+    → (used ≡ n → ⊥) → Edits buffer used a w r left w′ → (said r ≡ refused (cond (editLent buffer used w) 3 1)) × (left ≡ buffer)
 
 -- One edit call more, on what a run left of the lists o: buffers long enough, the length that was answered last, list A or B, a
 -- place that exists and a whole record.
@@ -151,9 +151,11 @@ NextTheorem =
     → FreshMove (newOrder (editOf a) (allDone (acceptedEdits l) o)) q c → SameAnswer r q b c
 
 -- Demand 3, other rules' boxes, on any pair sheet that reads, stale ones too: an accepted edit makes the pair s of the pair p that
--- stood there, with the edited lists. In A, where it adds, drops or swaps a deny, no other rule's group is another; in B none is.
+-- stood there, with the edited lists, and its sheet reads as itself. In A, where the edit adds, drops or swaps a deny, no other
+-- rule's group is another; in B none is.
 pub record OthersAsBefore (p s : Pair) (a : Asked) : Type 0 where
   pub lists : s .order ≡ newOrder (editOf a) (p .order)
+  pub sheet : pairIn limits (pairBytes s) ≡ accepted s
   pub gate :
       a .list ≡ 0 → DenyOnly (a .place) (kindOf (a .change) (a .bytes)) (p .order .gate)
       → OthersKept (a .place) (kindOf (a .change) (a .bytes)) p s

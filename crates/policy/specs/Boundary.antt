@@ -70,3 +70,6 @@ Holds (gives gate groups) = moved (record { gate = gate; own = [] }) .groups ≡
 unfoldable pub Right : List Line → Type 0
 Right [] = Unit {0}
 Right (l ∷ ls) = Holds l × Right ls
+
+abbrev pub BoundaryTheorem : Type 0
+BoundaryTheorem = Right boundaryTable
