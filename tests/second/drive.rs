@@ -15,7 +15,7 @@ use crate::step::{by_model, Call, Step};
 use crate::tally::Tally;
 
 /// From this many cases on, every answer that can occur has to have occurred.
-const ENOUGH_CASES: u64 = 20_000;
+const ENOUGH_CASES: u64 = 10_000;
 const PROGRESS: u64 = 1_000;
 
 pub struct Driver {
@@ -67,12 +67,16 @@ impl Driver {
         self.tally.print();
         println!();
         self.tally.print_grounds();
-        println!("{count} cases, {} calls, no difference", self.tally.total());
-        let missing = self.tally.missing();
-        if count >= ENOUGH_CASES {
+        let (missing, enough) = (self.tally.missing(), count >= ENOUGH_CASES);
+        if enough {
             missing.iter().for_each(|answer| println!("never met: {answer}"));
         }
-        count < ENOUGH_CASES || missing.is_empty()
+        let met = match missing.len() {
+            0 => "every answer met".to_string(),
+            unmet => format!("{unmet} answers never met"),
+        };
+        println!("{count} cases, {} calls, no difference, {met}", self.tally.total());
+        !enough || missing.is_empty()
     }
 
     /// A buffer only read by the call.

@@ -153,27 +153,26 @@ fn cutting_holds(random: &mut Random, packets: &[Packet]) -> bool {
             .all(|packet| meets(packet) == usize::from(deny.has(packet) && !allow.has(packet)))
 }
 
-/// The moved pair forwards what the pair forwarded.
-fn moving_holds(random: &mut Random, packets: &[Packet]) -> bool {
+/// The moved pair forwards what the pair forwarded; nothing is said of a pair that is not moved.
+fn moving_holds(random: &mut Random, packets: &[Packet]) -> Option<bool> {
     let shape = draw::shape(random);
     let pair = draw::small_pair(random, &shape);
-    let Ok(moved) = calls::moved(&pair.order()) else {
-        return true;
-    };
+    let moved = calls::moved(&pair.order()).ok()?;
     let cell = boxes::cell_rules(&moved.groups, &moved.own);
     let allows = |list: &[Rule], packet: &Packet| {
         boxes::first_match(list, packet).is_some_and(|(_, action)| action == Action::Allow)
     };
-    packets.iter().all(|packet| {
+    Some(packets.iter().all(|packet| {
         (allows(&pair.gate, packet) && allows(&pair.own, packet))
             == (allows(&boxes::gate_rules(), packet) && allows(&cell, packet))
-    })
+    }))
 }
 
 fn facts() -> Vec<(&'static str, bool)> {
     let (mut random, packets) = (Random::new(1), packets());
     let cutting = (0..300).all(|_| cutting_holds(&mut random, &packets));
-    let moving = (0..100).all(|_| moving_holds(&mut random, &packets));
+    let moves: Vec<bool> = (0..100).filter_map(|_| moving_holds(&mut random, &packets)).collect();
+    let moving = moves.len() > 90 && moves.iter().all(|&held| held);
     vec![("cutting, packet by packet", cutting), ("moving, packet by packet", moving)]
 }
 

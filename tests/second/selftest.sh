@@ -6,27 +6,45 @@
 set -eu
 cd "$(dirname "$0")/../.."
 out=target/mirror
+sources='tests/second/*.rs'
 mkdir -p $out
 rustc -O --edition 2021 --crate-type staticlib -o $out/libfoldplover.a tests/second/mirror.rs
 rustc -O --edition 2021 --cfg library -L native=$out -o $out/second tests/second/main.rs
 
+# Each command by itself, so that one that fails is seen.
 $out/second selftest
-$out/second cases 300 4 | cmp - tests/second/cases.bin
-$out/second expected <tests/second/cases.bin | cmp - tests/second/cases.out
-cmp crates/cases/stdin tests/second/cases.bin
-cmp crates/cases/stdout tests/second/cases.out
-for example in dairy plant refused; do
-    $out/second plan <examples/$example.order | cmp - examples/$example.out
+$out/second cases 300 4 >$out/cases.bin
+$out/second expected <$out/cases.bin >$out/cases.out
+for made in $out/cases.bin crates/cases/stdin; do cmp $made tests/second/cases.bin; done
+for made in $out/cases.out crates/cases/stdout; do cmp $made tests/second/cases.out; done
+for order in examples/*.order; do
+    $out/second plan <"$order" >$out/plan.out
+    cmp $out/plan.out "${order%.order}.out"
 done
 
-$out/second drive 20000 1 >$out/report.txt 2>$out/progress.txt
-tail -n 1 $out/report.txt
+drive() {
+    $out/second drive "$@" >$out/report.txt 2>$out/progress.txt
+}
 
-faults=$(grep -o 'shows("[^"]*")' tests/second/mirror.rs tests/second/broken.rs |
-    sed 's/.*"\(.*\)".*/\1/' | sort -u)
+# A few cases do not meet every answer, enough of them have to.
+drive 10 1
+tail -n 1 $out/report.txt | grep '^10 cases, .* no difference, [0-9]* answers never met$'
+drive 20000 1
+tail -n 1 $out/report.txt | grep '^20000 cases, .* no difference, every answer met$'
+
+# The names that the sources ask `shows` for: at least one, and no question without one.
+asked=$(grep -ohE '(fn )?shows\(' $sources | grep -vc fn || true)
+faults=$(grep -ohE 'shows\("[a-z0-9-]+"\)' $sources | cut -d '"' -f 2)
+named=$(echo "$faults" | grep -c . || true)
+if [ "$named" = 0 ] || [ "$named" != "$asked" ]; then
+    echo "NO NAME   of $asked faults $named can be read"
+    exit 1
+fi
+
 missed=0
 for fault in $faults; do
-    if FOLDPLOVER_BROKEN=$fault $out/second drive 20000 1 >$out/report.txt 2>$out/progress.txt; then
+    export FOLDPLOVER_BROKEN="$fault"
+    if drive 20000 1; then
         echo "NOT FOUND $fault"
         missed=1
     elif grep -q 'in case' $out/report.txt; then
