@@ -22,6 +22,7 @@ int main(int count, char **names) {
     FILE *file = fopen(names[1], "rb");
     if (file == NULL) return perror(names[1]), 2;
     size_t length = fread(order, 1, sizeof order, file);
+    if (ferror(file)) return perror(names[1]), 2;
     fclose(file);
 
     uint32_t used = foldplover_move(order, length, sheet, sizeof sheet, work, sizeof work);

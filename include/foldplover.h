@@ -27,7 +27,7 @@
  *
  * After a move load the cell list first, then the gate list: in between the pair forwards what it
  * forwarded before. To go back load the gate's old list first. After an edit only the cell list has
- * changed. A move is right only where every packet behind the gate passes this cell filter.
+ * changed. A move is right only where both filters see the same packets.
  * docs/FORMATS.md, section 7, says why, and section 8 has stack, time and linking.
  *
  * In what order faults are found
@@ -80,7 +80,7 @@ enum foldplover_refusal {
     FOLDPLOVER_COUNT = 2,           /* a list without a rule, or with more than it may have */
     FOLDPLOVER_MISSING = 3,         /* input too short or too long; a record not of 27 bytes */
     FOLDPLOVER_BAD_RULE = 4,        /* a range or an action that cannot be */
-    FOLDPLOVER_INCOMPLETE = 5,      /* no full rule at the end; in a lookup, no rule at all */
+    FOLDPLOVER_INCOMPLETE = 5,      /* no full rule at the end; in a lookup, none has the packet */
     FOLDPLOVER_TOO_MANY_PIECES = 6, /* over 1,024 pieces of one deny rule after some allow */
     FOLDPLOVER_TOO_MANY_BOXES = 7,  /* boxes and own rules together exceed 1,024 */
     FOLDPLOVER_GROUPS = 8,          /* wrong number of groups; groups not what A gives */
@@ -189,7 +189,7 @@ uint32_t foldplover_lookup(uint32_t src, uint32_t dst, uint32_t sport, uint32_t 
  * pointer into low reach beyond its five numbers.
  *
  * The call foldplover_rule has the same name. The type is always written struct foldplover_rule, in
- * C++ too: foldplover_rule alone is the call.
+ * C++ too: foldplover_rule alone is the call (g++ -Wshadow warns of this).
  */
 struct foldplover_rule {
     uint32_t low[5];

@@ -1,7 +1,7 @@
 #!/bin/sh
-# Holds docs/TRUST.md to the files: each theorem, a type of specs/ whose name ends in Theorem, has one value in proofs/ and one
-# only; the page's table lists every file of specs/ but Lib and Steps; no file that it lists and no contract of the C surface uses
-# a Steps; and no definition and no contract takes anything from proofs/.
+# Holds docs/TRUST.md to the files: each theorem, a type of specs/ whose name ends in Theorem, is named there and has one value in
+# proofs/ and one only; the page's table lists every file of specs/ but Lib and Steps; no file that it lists and no contract of the
+# C surface uses a Steps; and no definition and no contract takes anything from proofs/.
 set -eu
 cd "$(dirname "$0")/.."
 faults=0
@@ -10,11 +10,12 @@ fault() {
     faults=1
 }
 
-theorems=$(grep -hoE '^(abbrev )?pub (record )?[A-Za-z]*Theorem ' crates/*/specs/*.antt | grep -oE '[A-Za-z]*Theorem')
+theorems=$(grep -hoE '^((abbrev|unfoldable) )?pub (record )?[A-Za-z]*Theorem ' crates/*/specs/*.antt | grep -oE '[A-Za-z]*Theorem')
 [ -n "$theorems" ] || fault 'no theorem in specs/'
 for theorem in $theorems; do
-    values=$(grep -hE "^pub [a-z-]+ : $theorem\$" crates/*/proofs/*.antt | wc -l)
+    values=$(find crates/*/proofs -name '*.antt' -exec grep -hE "^ *pub [a-z-]+ : $theorem\$" {} + | wc -l)
     [ "$values" = 1 ] || fault "$theorem has $values values in proofs/"
+    grep -q "\`$theorem\`" docs/TRUST.md || fault "$theorem is not named"
 done
 
 # The table's second column: `crate/File`, and behind it `File`s of the same crate.

@@ -18,7 +18,7 @@ use Rattle.policy.specs.declared.Answer.the-variants.{Length, Refused}
 use Rattle.policy.specs.declared.Refusal.{Refusal}
 use Rattle.policy.specs.declared.Refusal.the-variants.{NoPlace, LengthWrong}
 use Rattle.wire.specs.Numbers.{Byte}
-use Rattle.wire.specs.Records.{recordBytes, recordsBytes, ruleIn}
+use Rattle.wire.specs.Records.{recordBytes, recordsBytes, ruleIn, eachBytes}
 use Rattle.wire.specs.Buffers.{lengthOf}
 use Rattle.wire.specs.Lists.{listBytes, listSize}
 use Rattle.wire.proofs.Numbers.{numberBytes-length}
@@ -49,7 +49,7 @@ record-put : (s : List ℕ) → length s ≡ recordSize → Each Byte s → take
 record-put s l b = sym (append-none (recordBytes (ruleIn s)) ∙ record-written-back s (omega arith) b)
 
 put-bytes-are : (c : Change) (s : List ℕ) → wholeRecord c s ≡ true → Each Byte s → take (recordSize * putBy c) s ≡ recordsBytes (put (kindOf c s))
-unfolding recordsBytes
+unfolding eachBytes
 put-bytes-are Insert s w b = record-put s (eqb-true (length s) recordSize w) b
 put-bytes-are Delete s w b = refl
 put-bytes-are Replace s w b = record-put s (eqb-true (length s) recordSize w) b

@@ -12,11 +12,12 @@ use Rattle.policy.specs.Fields.{countSize, recordSize}
 use Rattle.policy.specs.Rules.{Rule}
 use Rattle.policy.specs.Edit.{Kind, out, put, front, gone, back, changed}
 use Rattle.wire.specs.Numbers.{numberBytes}
-use Rattle.wire.specs.Records.{recordsBytes}
+use Rattle.wire.specs.Records.{recordsBytes, recordBytes}
 use Rattle.wire.proofs.Numbers.{numberBytes-length}
-use Rattle.wire.proofs.Records.{records-append, RuleFits, recordsBytes-length}
+use Rattle.wire.proofs.Records.{RuleFits, recordsBytes-length}
 use Rattle.changes.specs.Steps.{spliced}
 use Rattle.wire.specs.Lists.{listBytes}
+use Rattle.wire.proofs.Items.{bytes-append}
 
 -- four parts one behind another
 module _ (out a b c d o₁ o₂ o₃ o₄ : List ℕ) (p q r : ℕ) where
@@ -69,10 +70,10 @@ section-spliced new l i k count fits h en ec =
     let lf : length f ≡ i = length-take-le i l (omega arith) in
     let lg : length g ≡ out k = length-take-le (out k) (drop i l) (rw length-drop (omega arith)) in
     let whole : recordsBytes l ≡ recordsBytes f ++ (recordsBytes g ++ recordsBytes b) =
-    ap recordsBytes (sym (three-parts i (out k) l)) ∙ records-append f (g ++ b) ∙ ap (λ (t : List ℕ). recordsBytes f ++ t) (records-append g b) in
+    ap recordsBytes (sym (three-parts i (out k) l)) ∙ bytes-append recordBytes f (g ++ b) ∙ ap (λ (t : List ℕ). recordsBytes f ++ t) (bytes-append recordBytes g b) in
     let parts : numberBytes countSize (length l) ++ recordsBytes l ≡ numberBytes countSize (length l) ++ (recordsBytes f ++ (recordsBytes g ++ recordsBytes b)) =
     ap (λ (t : List ℕ). numberBytes countSize (length l) ++ t) whole in
     let done = parts-spliced (numberBytes countSize (length l) ++ recordsBytes l) (numberBytes countSize (length l)) (recordsBytes f) (recordsBytes g) (recordsBytes b) new count i (out k) parts (numberBytes-length countSize (length l))
     (recordsBytes-length f (each-take RuleFits i l fits) ∙ ap (λ (n : ℕ). recordSize * n) lf)
     (recordsBytes-length g (each-take RuleFits (out k) (drop i l) (each-drop RuleFits i l fits)) ∙ ap (λ (n : ℕ). recordSize * n) lg) in
-    done ∙ rw (en, ec, records-append f (put k ++ b), records-append (put k) b)
+    done ∙ rw (en, ec, bytes-append recordBytes f (put k ++ b), bytes-append recordBytes (put k) b)

@@ -10,7 +10,7 @@ use lib.Seq.{take-add, drop-at, drop-drop, length-take-le}
 use Rattle.policy.specs.Fields.{countSize, recordSize}
 use Rattle.policy.specs.Rules.{Rule, isAllow, denies, anyAllow}
 use Rattle.policy.proofs.Kept.{denies-append}
-use Rattle.wire.specs.Records.{ruleIn, rulesIn}
+use Rattle.wire.specs.Records.{ruleIn, eachIn}
 use Rattle.wire.proofs.Records.{rulesIn-length, rules-from}
 use Rattle.sheet.specs.Steps.{rulesOf}
 use Rattle.draft.specs.declared.Around.{Around}
@@ -28,7 +28,7 @@ no-rule s place n e =
 
 pub one-rule : (s : List ℕ) (place n : ℕ) {r : Rule} → n ≡ 1 → r ≡ ruleIn (drop (countSize + recordSize * place) s)
     → isAllow r ≡ anyAllow (drop place (rulesOf (place + n) s))
-unfolding anyAllow rulesIn
+unfolding anyAllow eachIn
 one-rule s place n e h =
     let k : place + n - place ≡ 1 = omega arith in
     rw (rules-from place (place + n) (drop countSize s), k, drop-drop (recordSize * place) countSize s, h) (sym (or-none _))

@@ -18,7 +18,7 @@ use Rattle.policy.specs.declared.Refusal.{Refusal}
 use Rattle.policy.specs.declared.Refusal.the-variants.{BufferShort, TooManyPieces, GroupsDiffer}
 use Rattle.policy.proofs.Answers.{said-once}
 use Rattle.policy.proofs.Checks.{groups-sound, groups-self}
-use Rattle.wire.specs.Buffers.{zeroed, answered}
+use Rattle.wire.specs.Buffers.{zeroed, answered, roomFor}
 use Rattle.sheet.specs.Pairs.{groupsBytes, pairIn, pairBytes}
 use Rattle.sheet.specs.Steps.{listsOf, pairOf, pairHeard, PairPlace, PairPlaced}
 use Rattle.sheet.specs.declared.PairParts.the-variants as P
@@ -26,7 +26,7 @@ use Rattle.sheet.proofs.Pairs.{pair-back}
 use Rattle.sheet.proofs.Accepted.{PairAccepted}
 use Rattle.draft.specs.Steps.{DraftedGroups, draftSize}
 use Rattle.draft.specs.declared.Drafted.the-variants as D
-use Rattle.planner.specs.Calls.{roomFor, workAfter, checkedOf, checkOf, Checks}
+use Rattle.planner.specs.Calls.{workAfter, checkedOf, checkOf, Checks}
 use Rattle.checking.specs.Steps.{SameGroups, CheckRead}
 use Rattle.planner.proofs.Good.{moved-good}
 use Rattle.planner.proofs.Calls.{room-there}

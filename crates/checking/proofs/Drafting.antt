@@ -9,10 +9,11 @@ use lib.ListN.{length, take, drop, length-drop}
 use borrow.Author.Tests.{le-ltb}
 use Rattle.policy.specs.Fields.{countSize, limits, workSize}
 use Rattle.policy.specs.Rules.{allowsIn}
-use Rattle.policy.specs.Move.{slotsOf, startOf, together, anyOver, work, room, Order, moved, moveRefusal}
+use Rattle.policy.specs.Move.{slotsOf, startOf, together, anyOver, work, room, Order, moved}
+use Rattle.policy.proofs.Refused.{moveRefusal}
 use Rattle.policy.specs.declared.Refusal.the-variants.{TooManyPieces}
 use Rattle.policy.proofs.Numbers.{orElse-both}
-use Rattle.wire.specs.Records.{rulesIn}
+use Rattle.wire.specs.Records.{eachIn}
 use Rattle.wire.proofs.Records.{rulesIn-length}
 use Rattle.sheet.specs.Pairs.{groupsBytes}
 use Rattle.sheet.specs.Steps.{rulesOf, listsOf}
@@ -32,7 +33,7 @@ module _ {s : List ℕ} {n m middle third boxes : ℕ} (a : PairAccepted s n m m
 
   -- the whole of A, drafted, is the slots of a move
   whole : (rules : List ℕ) → rules ≡ drop countSize s → stretch 0 n rules ≡ slotsOf o
-  unfolding rulesIn allowsIn
+  unfolding eachIn allowsIn
   whole rules e = rw e
 
   pub draft-ready : (rules draft w : List ℕ) → rules ≡ drop countSize s → draftSize limits ≤ length draft → workSize limits ≤ length w → Ready rules 0 n draft 0 0 w

@@ -1,6 +1,6 @@
 -- Drafting slot by slot: what one slot draws, and how a draft goes on. Assumes nothing.
 use mathlib.Core.Path.{_≡_, refl, ap, sym, _∙_}
-use mathlib.Core.List.{List, [], _∷_, _++_, append-assoc}
+use mathlib.Core.List.{List, [], _∷_, _++_}
 use mathlib.Core.Bool.{true, false}
 use Prim.Native.Nat.{ℕ, zero, suc, _+_, _*_, _-_, _≤_, _<_}
 use native.Mathlib.Omega.{arith}
@@ -12,23 +12,19 @@ use Rattle.policy.specs.Fields.{recordSize, Limits}
 use Rattle.policy.specs.Ranges.{Region}
 use Rattle.policy.specs.Rules.{Rule, isAllow, sound, allowsIn}
 use Rattle.policy.specs.Cut.{group}
-use Rattle.policy.specs.Move.{Slot, anew, slots, boxesOf, together, over, overSlot, anyOver}
+use Rattle.policy.specs.Move.{Slot, anew, slots, boxesOf, together, over, overSlot, anyOver, alone, groupsOf}
 use Rattle.policy.proofs.Edits.{slots-append, over-append, together-append, allowsIn-append}
-use Rattle.wire.specs.Records.{ruleIn, rulesIn}
+use Rattle.wire.specs.Records.{ruleIn, rulesIn, eachBytes, eachIn}
 use Rattle.wire.proofs.Records.{rules-from, rulesIn-length}
 use Rattle.sheet.specs.Pairs.{groupBytes, groupsBytes}
-use Rattle.draft.specs.Steps.{alone, stretch, slotGroups, Told, Drafting}
+use Rattle.draft.specs.Steps.{stretch, Told, Drafting}
 use Rattle.draft.specs.declared.Drafted.{Drafted}
 use Rattle.draft.specs.declared.Drafted.the-variants.{Groups, TooManyPieces}
-
-pub groupsBytes-append : (x y : List (List Region)) → groupsBytes (x ++ y) ≡ groupsBytes x ++ groupsBytes y
-unfolding groupsBytes
-groupsBytes-append [] y = refl
-groupsBytes-append (g ∷ x) y = rw (groupsBytes-append x y) (sym (append-assoc (groupBytes g) (groupsBytes x) (groupsBytes y)))
+use Rattle.wire.proofs.Items.{bytes-append}
 
 -- nothing to draft
 pub drafting-none : (lim : Limits) (draft : List ℕ) (at boxes : ℕ) → Drafting lim [] draft at boxes (Groups boxes at) draft
-unfolding Told anyOver together groupsBytes
+unfolding Told anyOver together eachBytes
 drafting-none lim draft at boxes = record { told = (refl, omega arith, λ h. (omega arith, refl)) }
 
 -- one stretch behind another
@@ -42,10 +38,10 @@ pub drafting-then : {lim : Limits} {x y : List Slot} {draft draft′ last : List
 unfolding Told
 drafting-then {lim} {x} {y} TooManyPieces h k = record { told = over-append (lim .pieces) x y ∙ rw (h .told .0, k .told) }
 drafting-then {lim} {x} {y} {draft} {draft′} {last} {at} {boxes} {b} {n} (Groups c m) h k =
-    let e : length (together (slotGroups (x ++ y))) ≡ length (together (slotGroups x)) + length (together (slotGroups y)) =
-    rw (map-append boxesOf x y, together-append (slotGroups x) (slotGroups y)) (length-append (together (slotGroups x)) (together (slotGroups y))) in
-    let f : groupsBytes (slotGroups (x ++ y)) ≡ groupsBytes (slotGroups x) ++ groupsBytes (slotGroups y) =
-    rw (map-append boxesOf x y) (groupsBytes-append (slotGroups x) (slotGroups y)) in
+    let e : length (together (groupsOf (x ++ y))) ≡ length (together (groupsOf x)) + length (together (groupsOf y)) =
+    rw (map-append boxesOf x y, together-append (groupsOf x) (groupsOf y)) (length-append (together (groupsOf x)) (together (groupsOf y))) in
+    let f : groupsBytes (groupsOf (x ++ y)) ≡ groupsBytes (groupsOf x) ++ groupsBytes (groupsOf y) =
+    rw (map-append boxesOf x y) (bytes-append groupBytes (groupsOf x) (groupsOf y)) in
     let hb = h .told .1 in
     let kb = k .told .1 in
     record {
@@ -55,7 +51,7 @@ drafting-then {lim} {x} {y} {draft} {draft′} {last} {at} {boxes} {b} {n} (Grou
         λ t.
             let u = h .told .2 (omega arith) in
             let v = k .told .2 t in
-            (rw (f, length-append) (omega arith), v .1 ∙ rw (u .1, f, sets-append draft at (groupsBytes (slotGroups x)) (groupsBytes (slotGroups y)), u .0)),
+            (rw (f, length-append) (omega arith), v .1 ∙ rw (u .1, f, sets-append draft at (groupsBytes (groupsOf x)) (groupsBytes (groupsOf y)), u .0)),
       );
     }
 
@@ -69,7 +65,7 @@ module _ (lim : Limits) (start allows : List Region) (draft : List ℕ) (at boxe
   pub drafting-one : (n b end : ℕ) (last : List ℕ) → over (lim .pieces) start allows ≡ false → n ≡ length (group start allows)
       → b ≡ boxes + n → (b ≤ lim .total → (end ≡ at + length (groupBytes (group start allows))) × (last ≡ sets draft at (groupBytes (group start allows))))
       → Drafting lim (anew start allows ∷ []) draft at boxes (Groups b end) last
-  unfolding Told anyOver overSlot boxesOf together groupsBytes
+  unfolding Told anyOver overSlot boxesOf together eachBytes
   drafting-one n b end last h e f g =
       record {
         told = (
@@ -82,7 +78,7 @@ module _ (lim : Limits) (start allows : List Region) (draft : List ℕ) (at boxe
       }
 
 pub rules-front : (i n : ℕ) (s : List ℕ) → i ≤ n → take i (rulesIn n s) ≡ rulesIn i s
-unfolding rulesIn
+unfolding eachIn
 rules-front zero n s h = refl
 rules-front (suc i) zero s h = absurd (omega arith)
 rules-front (suc i) (suc n) s h = ap (λ (l : List Rule). ruleIn s ∷ l) (rules-front i n (drop recordSize s) (omega arith))
@@ -96,7 +92,7 @@ module _ (s : List ℕ) (i : ℕ) where
   here = ruleIn (drop (recordSize * i) s)
 
   left-cons : (to : ℕ) → i < to → drop i (rulesIn to s) ≡ here ∷ drop (i + 1) (rulesIn to s)
-  unfolding rulesIn
+  unfolding eachIn
   left-cons to h =
       let e : to - i ≡ suc (to - (i + 1)) = omega arith in
       let f : recordSize * i + recordSize ≡ recordSize * (i + 1) = omega arith in

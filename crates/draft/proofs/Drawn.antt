@@ -9,10 +9,10 @@ use lib.ListN.{length, take, drop, length-map}
 use lib.Seq.{sets, sets-eq, take-at}
 use Rattle.lists.specs.Lists.{Each}
 use Rattle.policy.specs.Fields.{limits}
-use Rattle.policy.specs.Move.{Slot, boxesOf, together, anyOver}
+use Rattle.policy.specs.Move.{Slot, boxesOf, together, anyOver, groupsOf}
 use Rattle.sheet.specs.Pairs.{groupsBytes}
 use Rattle.sheet.proofs.Pairs.{ProperGroup}
-use Rattle.draft.specs.Steps.{slotGroups, Told, Drafting, draftSize, Told, Behind}
+use Rattle.draft.specs.Steps.{Told, Drafting, draftSize, Told, Behind}
 use Rattle.draft.specs.declared.Drafted.{Drafted}
 use Rattle.draft.specs.declared.Drafted.the-variants.{Groups, TooManyPieces}
 use Rattle.draft.proofs.Laid.{groups-length}
@@ -27,28 +27,28 @@ module _ {l : List Slot} {draft draft′ : List ℕ} {front : ℕ} where
     unfolding Told
     drawn-light = x .told .0
 
-    pub drawn-boxes : boxes ≡ front + length (together (slotGroups l))
+    pub drawn-boxes : boxes ≡ front + length (together (groupsOf l))
     unfolding Told
     drawn-boxes = x .told .1
 
-    module _ (few : boxes ≤ limits .total) (proper : Each ProperGroup (slotGroups l)) (short : length l ≤ limits .gate) (room : draftSize limits ≤ length draft) where
-      bytes-drawn : (end ≡ 0 + length (groupsBytes (slotGroups l))) × (draft′ ≡ sets draft 0 (groupsBytes (slotGroups l)))
+    module _ (few : boxes ≤ limits .total) (proper : Each ProperGroup (groupsOf l)) (short : length l ≤ limits .gate) (room : draftSize limits ≤ length draft) where
+      bytes-drawn : (end ≡ 0 + length (groupsBytes (groupsOf l))) × (draft′ ≡ sets draft 0 (groupsBytes (groupsOf l)))
       unfolding Told
       bytes-drawn = x .told .2 few
 
       pub drawn-end : end ≤ length draft
-      drawn-end = omega (arith, bytes-drawn .0, groups-length (slotGroups l) proper, length-map l boxesOf, drawn-boxes)
+      drawn-end = omega (arith, bytes-drawn .0, groups-length (groupsOf l) proper, length-map l boxesOf, drawn-boxes)
 
-      pub drawn-content : take end draft′ ≡ groupsBytes (slotGroups l)
+      pub drawn-content : take end draft′ ≡ groupsBytes (groupsOf l)
       drawn-content =
           let e = bytes-drawn in
-          let g : List ℕ = groupsBytes (slotGroups l) in
+          let g : List ℕ = groupsBytes (groupsOf l) in
           let z : 0 + length g ≡ length g = omega arith in
           rw (e .1, sets-eq g draft 0 (omega (arith, drawn-end)), e .0) (take-at g (drop (0 + length g) draft) (0 + length g) (sym z))
 
 -- all of it, once the groups are known to be proper
 pub drawn-behind : {l : List Slot} {draft draft′ : List ℕ} {front : ℕ} (r : Drafted) → Drafting limits l draft 0 front r draft′ → length draft′ ≡ length draft
-    → Each ProperGroup (slotGroups l) → length l ≤ limits .gate → draftSize limits ≤ length draft → Behind l front r draft′
+    → Each ProperGroup (groupsOf l) → length l ≤ limits .gate → draftSize limits ≤ length draft → Behind l front r draft′
 unfolding Told
 drawn-behind TooManyPieces x k proper short room = record { told = drawn-over x }
 drawn-behind (Groups b n) x k proper short room = record {

@@ -8,7 +8,7 @@ use Rattle.lists.specs.Lists.{Each}
 use Rattle.policy.specs.Fields.{highest, widths, boxSize, countSize}
 use Rattle.policy.specs.Ranges.{Region, proper}
 use Rattle.policy.specs.Move.{together}
-use Rattle.wire.specs.Records.{Fits, boxesBytes}
+use Rattle.wire.specs.Records.{Fits, boxesBytes, eachBytes}
 use Rattle.wire.proofs.Records.{proper-fits, boxesBytes-length}
 use Rattle.wire.proofs.Numbers.{numberBytes-length}
 use Rattle.sheet.specs.Pairs.{groupBytes, groupsBytes}
@@ -18,7 +18,7 @@ use Rattle.draft.specs.Steps.{Laid}
 use Rattle.lists.proofs.Lists.{each-every}
 
 pub groups-length : (gs : List (List Region)) → Each ProperGroup gs → length (groupsBytes gs) ≡ countSize * length gs + boxSize * length (together gs)
-unfolding groupsBytes groupBytes together Each
+unfolding eachBytes groupBytes together Each
 groups-length [] h = refl
 groups-length (g ∷ gs) h =
     let i = groups-length gs (h .1) in
@@ -27,7 +27,7 @@ groups-length (g ∷ gs) h =
 
 -- Groups of proper boxes, within the total, lie one behind another in their bytes.
 pub groups-laid : (gs : List (List Region)) → Each ProperGroup gs → length (together gs) < 65536 → Laid (length gs) (groupsBytes gs)
-unfolding Laid groupsBytes groupBytes Each together
+unfolding Laid eachBytes groupBytes Each together
 groups-laid [] h l = refl
 groups-laid (g ∷ gs) h l =
     let n : length (together (g ∷ gs)) ≡ length g + length (together gs) = length-append g (together gs) in

@@ -14,13 +14,13 @@ use Rattle.policy.specs.Ranges.{Region}
 use Rattle.policy.specs.Move.{together}
 use Rattle.policy.proofs.Edits.{together-append}
 use Rattle.wire.proofs.Records.{boxesIn-length}
-use Rattle.sheet.specs.Pairs.{groupSize, groupBoxes, groupsBytes}
+use Rattle.sheet.specs.Pairs.{groupSize, groupBoxes, groupsBytes, groupBytes}
 use Rattle.sheet.specs.Steps.{groupsFrom, boxCount}
 use Rattle.sheet.proofs.Pairs.{ProperGroup}
-use Rattle.draft.proofs.Drafts.{groupsBytes-append}
 use Rattle.draft.proofs.Laid.{groups-length}
 use Rattle.draft.specs.Steps.{runSize, GroupsHeld}
 use Rattle.wire.specs.Lists.{countIn}
+use Rattle.wire.proofs.Items.{bytes-append}
 
 boxes-cons : (n : ℕ) (s : List ℕ) → boxCount (suc n) s ≡ countIn s + boxCount n (drop (groupSize (countIn s)) s)
 unfolding groupsFrom together
@@ -102,7 +102,7 @@ module _ (i n : ℕ) (s : List ℕ) (upTo : i ≤ n) (held : GroupsHeld s n) whe
   both = sym (rw (groups-front i n s upTo) at (take-append-drop i all))
 
   both-bytes : take (runSize n s) s ≡ groupsBytes (groupsFrom i s) ++ groupsBytes (drop i all)
-  both-bytes = sym (held .bytes) ∙ ap groupsBytes both ∙ groupsBytes-append (groupsFrom i s) (drop i all)
+  both-bytes = sym (held .bytes) ∙ ap groupsBytes both ∙ bytes-append groupBytes (groupsFrom i s) (drop i all)
 
   pub boxes-split : boxCount n s ≡ boxCount i s + length (together (drop i all))
   boxes-split = ap (λ (l : List (List Region)). length (together l)) both ∙ rw (together-append (groupsFrom i s) (drop i all)) (length-append (together (groupsFrom i s)) (together (drop i all)))

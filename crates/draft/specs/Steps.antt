@@ -1,7 +1,7 @@
 -- A draft of section C's groups, made before the sheet is touched; groups that are kept, and groups worked out anew between them
 -- (a move keeps none); and a pair sheet put together around what stands in it already (01, Calls). Assumes nothing.
 use mathlib.Core.Path.{_≡_}
-use mathlib.Core.List.{List, [], _∷_, _++_, map}
+use mathlib.Core.List.{List, _++_, map}
 use mathlib.Core.Bool.{true, false}
 use Prim.Native.Nat.{ℕ, _+_, _*_, _≤_, zero, suc, _-_, _<_}
 use lib.ListN.{length, take, drop}
@@ -9,7 +9,7 @@ use lib.Seq.{sets}
 use Rattle.lists.specs.Lists.{every, Each}
 use Rattle.policy.specs.Fields.{boxSize, countSize, recordSize, Limits, limits, workSize, highest}
 use Rattle.policy.specs.Ranges.{Region, proper}
-use Rattle.policy.specs.Move.{Slot, slots, boxesOf, together, anyOver, kept}
+use Rattle.policy.specs.Move.{Slot, alone, slots, groupsOf, together, anyOver, kept}
 use Rattle.policy.specs.Rules.{sound, allowsIn}
 use Rattle.wire.specs.Numbers.{numberBytes}
 use Rattle.wire.specs.Records.{rulesIn}
@@ -25,16 +25,9 @@ use Rattle.draft.specs.declared.kept.Standing.{Standing}
 abbrev pub draftSize : Limits → ℕ
 draftSize lim = countSize * lim .gate + boxSize * lim .total
 
--- A group starts with the deny rule's box alone.
-abbrev pub alone : Region → List Region
-alone d = d ∷ []
-
 -- The slots of the deny rules from one place up to another of these records, all worked out anew.
 abbrev pub stretch : ℕ → ℕ → List ℕ → List Slot
 stretch from to rules = slots alone (allowsIn (rulesIn from rules)) (drop from (rulesIn to rules))
-
-abbrev pub slotGroups : List Slot → List (List Region)
-slotGroups l = map boxesOf l
 
 -- A group's bytes behind what the draft holds, where all boxes with these are within the total.
 pub record Appended (draft : List ℕ) (at boxes n : ℕ) (content : List ℕ) (r : ℕ) (draft′ : List ℕ) : Type 0 where
@@ -46,7 +39,7 @@ pub record Appended (draft : List ℕ) (at boxes n : ℕ) (content : List ℕ) (
 unfoldable pub Told : Limits → List Slot → ℕ → (ℕ → Type 0) → Drafted → Type 0
 Told lim l boxes bytes TooManyPieces = anyOver (lim .pieces) l ≡ true
 Told lim l boxes bytes (Groups b n) =
-    (anyOver (lim .pieces) l ≡ false) × (b ≡ boxes + length (together (slotGroups l))) × (b ≤ lim .total → bytes n)
+    (anyOver (lim .pieces) l ≡ false) × (b ≡ boxes + length (together (groupsOf l))) × (b ≤ lim .total → bytes n)
 
 -- Content put at a place of a draft, up to n; and content that begins the bytes, n bytes long.
 abbrev pub PutAt : List ℕ → ℕ → List ℕ → List ℕ → ℕ → Type 0
@@ -57,7 +50,7 @@ Begins s content n = (n ≤ length s) × (take n s ≡ content)
 
 -- What drafting these slots behind `at` bytes and `boxes` boxes answers and leaves.
 pub record Drafting (lim : Limits) (l : List Slot) (draft : List ℕ) (at boxes : ℕ) (r : Drafted) (draft′ : List ℕ) : Type 0 where
-  pub told : Told lim l boxes (PutAt draft at (groupsBytes (slotGroups l)) draft′) r
+  pub told : Told lim l boxes (PutAt draft at (groupsBytes (groupsOf l)) draft′) r
 
 -- Where a draft may end, and how many boxes it may have, after so many rules.
 pub record Bounded (rules boxes at : ℕ) : Type 0 where
@@ -119,7 +112,7 @@ pub record Placed (v : Around) (gate : ℕ) : Type 0 where
 
 -- The same of slots behind groups of so many boxes, whose bytes then begin a buffer.
 pub record Behind (l : List Slot) (boxes : ℕ) (r : Drafted) (s : List ℕ) : Type 0 where
-  pub told : Told limits l boxes (Begins s (groupsBytes (slotGroups l))) r
+  pub told : Told limits l boxes (Begins s (groupsBytes (groupsOf l))) r
 
 -- So many groups lie one behind another in these bytes, and nothing else does.
 unfoldable pub Laid : ℕ → List ℕ → Type 0

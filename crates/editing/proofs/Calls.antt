@@ -8,7 +8,7 @@ use borrow.Author.Tests.{le-leb, lt-leb}
 use Rattle.policy.specs.Fields.{limits, workSize}
 use Rattle.policy.specs.declared.Answer.{Answer}
 use Rattle.sheet.specs.Pairs.{pairBytes, pairSize}
-use Rattle.planner.specs.Calls.{roomFor}
+use Rattle.wire.specs.Buffers.{roomFor}
 use Rattle.planner.specs.Edits.{Asked, editLent, editedOf, Edits}
 use Rattle.planner.proofs.Calls.{room-there, call-once}
 

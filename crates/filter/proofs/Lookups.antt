@@ -13,7 +13,7 @@ use Rattle.policy.specs.Ranges.{Packet, inside}
 use Rattle.policy.specs.Rules.{Rule, sound}
 use Rattle.policy.specs.Refusals.{Outcome, accepted, refused, test}
 use Rattle.wire.specs.Numbers.{numberIn}
-use Rattle.wire.specs.Records.{ruleIn, rulesIn}
+use Rattle.wire.specs.Records.{ruleIn, rulesIn, eachIn}
 use Rattle.filter.specs.Lookup.{Hit, hit, lookFrom, lookup}
 use Rattle.wire.specs.Lists.{listSize}
 
@@ -31,7 +31,7 @@ module _ (p : Packet) (s : List ℕ) (n i : ℕ) (left : Left p s n i) where
   -- With the rule there in hand.
   module _ (more : i < n) (r : Rule) (is : r ≡ ruleIn (drop (listSize i) s)) where
     at-rule : whole ≡ test (sound r) 4 (cond (inside p (r .region)) (accepted (hit i (r .action))) (lookFrom (suc i) p (rulesIn (n - (i + 1)) (drop (listSize (i + 1)) s))))
-    unfolding lookFrom rulesIn
+    unfolding lookFrom eachIn
     at-rule =
         let e : n - i ≡ suc (n - (i + 1)) = omega arith in
         let d : listSize (i + 1) ≡ listSize i + recordSize = omega arith in
@@ -48,7 +48,7 @@ module _ (p : Packet) (s : List ℕ) (n i : ℕ) (left : Left p s n i) where
       rule-misses f = at-rule ∙ rw (well, f) (ap (λ (m : ℕ). lookFrom m p (rulesIn (n - (i + 1)) (drop (listSize (i + 1)) s))) (sym (add-one i)))
 
   pub none-fits : n ≤ i → refused 5 ≡ whole
-  unfolding lookFrom rulesIn
+  unfolding lookFrom eachIn
   none-fits h = let e : n - i ≡ 0 = omega arith in sym (left ∙ rw e refl)
 
 -- The tests of a list's head, in their order.

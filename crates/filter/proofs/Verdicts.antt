@@ -17,8 +17,7 @@ use Rattle.policy.proofs.Answers.{number-once, test-accepted}
 use Rattle.wire.specs.Numbers.{numberIn}
 use Rattle.wire.specs.Records.{rulesIn}
 use Rattle.wire.proofs.Records.{sound-action, rulesIn-length}
-use Rattle.filter.specs.Lookup.{Hit, hit, lookFrom, lookup, lookupNumber}
-use Rattle.filter.specs.Steps.{verdict}
+use Rattle.filter.specs.Lookup.{Hit, hit, lookFrom, lookup, lookupNumber, verdict}
 use Rattle.filter.specs.declared.Verdict.{Verdict}
 use Rattle.filter.specs.declared.Verdict.the-variants.{Decided, Refused}
 use Rattle.wire.specs.Lists.{listSize}

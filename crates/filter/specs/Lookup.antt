@@ -8,7 +8,9 @@ use lib.ListN.{length, drop}
 use Rattle.policy.specs.Fields.{countSize}
 use Rattle.policy.specs.Ranges.{Packet, inside}
 use Rattle.policy.specs.Rules.{Rule, sound, Found, found, nothing, first}
-use Rattle.policy.specs.Refusals.{refusalBase, Outcome, accepted, refused, test, faults}
+use Rattle.policy.specs.Refusals.{refusalBase, Outcome, accepted, refused, test, faults, numberOf}
+use Rattle.filter.specs.declared.Verdict.{Verdict}
+use Rattle.filter.specs.declared.Verdict.the-variants.{Decided, Refused}
 use Rattle.wire.specs.Records.{rulesIn}
 use Rattle.wire.specs.Lists.{countIn, listSize, listBytes}
 
@@ -19,6 +21,11 @@ pub record Hit : Type 0 where
 
 abbrev pub hit : ℕ → ℕ → Hit
 hit n a = record { place = n; action = a }
+
+-- The code's answer: the place and the action of the rule that decides, or the refusal's number.
+abbrev pub verdict : Verdict → Outcome Hit
+verdict (Decided place action) = accepted (hit place action)
+verdict (Refused f) = refused (numberOf f)
 
 -- One rule after another: 4 if it is bad, whatever the packet is; where it fits, it decides; 5 behind the last.
 unfoldable pub lookFrom : ℕ → Packet → List Rule → Outcome Hit

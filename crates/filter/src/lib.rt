@@ -15,9 +15,8 @@ ghost use Rattle.policy.specs.Fields.{countSize, limits};
 ghost use Rattle.policy.specs.Ranges.{range, within};
 ghost use Rattle.policy.specs.Values.{packetOf};
 ghost use Rattle.wire.specs.Records.{rulesIn};
-ghost use Rattle.filter.specs.Lookup.{lookFrom, lookup, lookupNumber};
+ghost use Rattle.filter.specs.Lookup.{lookFrom, lookup, lookupNumber, verdict};
 ghost use Rattle.wire.specs.Lists.{listSize};
-ghost use Rattle.filter.specs.Steps.{verdict};
 
 // The rule that decides, or the refusal.
 pub enum Verdict {

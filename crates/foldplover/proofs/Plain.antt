@@ -15,11 +15,11 @@ use Rattle.policy.specs.declared.Answer.{Answer}
 use Rattle.policy.specs.declared.Answer.the-variants.{Length, Refused}
 use Rattle.policy.proofs.Answers.{test-accepted}
 use Rattle.records.specs.Calls.{readingOf, writingOf, RecordRead, RecordWritten}
-use Rattle.wire.specs.Buffers.{answered, written, lengthOf}
+use Rattle.wire.specs.Buffers.{roomFor, answered, written, lengthOf}
 use Rattle.sheet.specs.Orders.{orderBytes, orderIn, gateSize, ownSize, orderSize}
 use Rattle.orders.specs.Split.{splitOf, Split, firstBytes}
 use Rattle.orders.specs.Join.{joinOf, Join}
-use Rattle.planner.specs.Calls.{roomFor, Call, checkOf, Checks}
+use Rattle.planner.specs.Calls.{Call, checkOf, Checks}
 use Rattle.planner.proofs.Lengths.{filled-within, call-length}
 use Rattle.foldplover.specs.Coded.{Plain}
 use Rattle.wire.specs.Lists.{listBytes}
@@ -48,7 +48,7 @@ written-plain {ns = ns} {out = out} x = subst Plain (sym (x .answer)) (answered-
 
 -- Split: the A list is within its buffer.
 split-small : (s a b : List ℕ) (x : Outcome Order) → splitOf limits s a b ≡ x → length (written firstBytes (gateSize limits) a x) ≡ length a → Plain (lengthOf firstBytes x)
-unfolding splitOf written lengthOf
+unfolding splitOf written lengthOf roomFor
 split-small s a b (accepted o) e h =
     let t = test-accepted (leb (gateSize limits) (length a)) 1 (test (leb (ownSize limits) (length b)) 1 (orderIn limits s)) e in
     let w = filled-within (gateSize limits) a (listBytes (o .gate)) (leb-true (gateSize limits) (length a) (t .0)) h in
@@ -61,7 +61,7 @@ split-plain {s = s} {a = a} {b = b} x e =
 
 -- Join: the order sheet is within its buffer.
 join-small : (a b out : List ℕ) (x : Outcome Order) → joinOf limits a b out ≡ x → length (written orderBytes (orderSize limits) out x) ≡ length out → Plain (lengthOf orderBytes x)
-unfolding joinOf written lengthOf
+unfolding joinOf written lengthOf roomFor
 join-small a b out (accepted o) e h =
     let t = test-accepted (leb (orderSize limits) (length out)) 1 _ e in
     let w = filled-within (orderSize limits) out (orderBytes o) (leb-true (orderSize limits) (length out) (t .0)) h in

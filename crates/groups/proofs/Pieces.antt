@@ -1,6 +1,6 @@
 -- Laws on the pieces that stand at the front of the work buffer. Assumes nothing.
-use mathlib.Core.Path.{_≡_, refl, ap, sym, _∙_}
-use mathlib.Core.List.{List, [], _∷_, _++_, append-assoc}
+use mathlib.Core.Path.{_≡_, ap, sym, _∙_}
+use mathlib.Core.List.{List, [], _∷_, _++_}
 use Prim.Native.Nat.{ℕ, zero, suc, _+_, _-_, _*_, _<_, _≤_}
 use native.Mathlib.Omega.{arith}
 use native.Mathlib.Numerals.{add-one}
@@ -11,19 +11,15 @@ use Rattle.lists.proofs.Lists.{each-imp, each-take, each-drop}
 use Rattle.policy.specs.Fields.{widths, boxSize}
 use Rattle.policy.specs.Ranges.{Region}
 use Rattle.policy.specs.Rules.{Proper}
-use Rattle.wire.specs.Records.{boxBytes, boxIn, boxesBytes, boxesIn, Fits}
+use Rattle.wire.specs.Records.{boxBytes, boxIn, boxesBytes, boxesIn, Fits, eachBytes}
 use Rattle.wire.proofs.Records.{proper-fits, boxBytes-length, box-back, boxesBytes-length, boxesIn-length, box-in-place}
 use Rattle.groups.specs.Steps.{Stands}
+use Rattle.wire.proofs.Items.{bytes-append}
 
 drop-take : {A : Type 0} (n m : ℕ) (l : List A) → drop n (take (n + m) l) ≡ take m (drop n l)
 drop-take zero m l = let e : 0 + m ≡ m = omega arith in ap (λ (k : ℕ). take k l) e
 drop-take (suc n) m [] = let e : suc n + m ≡ suc (n + m) = omega arith in rw (e, take-nil)
 drop-take (suc n) m (a ∷ l) = let e : suc n + m ≡ suc (n + m) = omega arith in rw e (drop-take n m l)
-
-pub boxes-bytes : (l k : List Region) → boxesBytes (l ++ k) ≡ boxesBytes l ++ boxesBytes k
-unfolding boxesBytes
-boxes-bytes [] k = refl
-boxes-bytes (b ∷ l) k = rw (boxes-bytes l k) (sym (append-assoc (boxBytes b) (boxesBytes l) (boxesBytes k)))
 
 pub proper-all : (l : List Region) → Each Proper l → Each (Fits widths) l
 proper-all l h = each-imp Proper (Fits widths) l proper-fits h
@@ -39,7 +35,7 @@ module _ {n : ℕ} {work : List ℕ} (st : Stands n work) (room : boxSize * n �
     parts =
         let e : boxSize * n ≡ boxSize * i + boxSize * (n - i) = omega arith in
         sym (take-add (boxSize * i) (boxSize * (n - i)) work)
-        ∙ (ap (λ (k : ℕ). take k work) (sym e) ∙ (st .written ∙ (ap boxesBytes (sym (take-append-drop i (boxesIn n work))) ∙ boxes-bytes (take i (boxesIn n work)) (drop i (boxesIn n work)))))
+        ∙ (ap (λ (k : ℕ). take k work) (sym e) ∙ (st .written ∙ (ap boxesBytes (sym (take-append-drop i (boxesIn n work))) ∙ bytes-append boxBytes (take i (boxesIn n work)) (drop i (boxesIn n work)))))
 
     taken-length : length (take (boxSize * i) work) ≡ boxSize * i
     taken-length = length-take-le (boxSize * i) work (omega arith)
@@ -66,7 +62,7 @@ module _ {n : ℕ} {work : List ℕ} (st : Stands n work) (room : boxSize * n �
     fits-at = proper-fits (boxIn (drop (boxSize * i) work)) ((rw (boxes-next n i work h) at (each-drop Proper i (boxesIn n work) (st .each))) .0)
 
     bytes-at : take boxSize (drop (boxSize * i) work) ≡ boxBytes (boxIn (drop (boxSize * i) work))
-    unfolding boxesBytes
+    unfolding eachBytes
     bytes-at =
         let s : List ℕ = drop (boxSize * i) work in
         sym (take-take boxSize (boxSize * (n - i)) s (omega arith))

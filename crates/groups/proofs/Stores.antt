@@ -11,7 +11,7 @@ use borrow.Author.Tests.{ltb-true, lt-ltb, le-ltb}
 use Rattle.lists.specs.Lists.{Each}
 use Rattle.policy.specs.Fields.{widths, boxSize}
 use Rattle.policy.specs.Ranges.{Region}
-use Rattle.wire.specs.Records.{boxBytes, boxesBytes, Fits}
+use Rattle.wire.specs.Records.{boxBytes, boxesBytes, Fits, eachBytes}
 use Rattle.wire.proofs.Records.{boxBytes-length}
 use Rattle.lists.proofs.Lists.{sets-append, take-sets, drop-sets}
 use Rattle.groups.specs.Steps.{places, storeOne, store, Stored}
@@ -56,7 +56,7 @@ module _ (half : ℕ) where
 
   -- Where there is room for all, the boxes are one run of bytes.
   pub store-fits : (l : List Region) (work : List ℕ) (m : ℕ) → Each (Fits widths) l → m + length l ≤ places → store half work m l ≡ sets work (half + boxSize * m) (boxesBytes l)
-  unfolding store storeOne boxesBytes Each
+  unfolding store storeOne eachBytes Each
   store-fits [] work m f h = refl
   store-fits (b ∷ l) work m f h =
       let e : half + boxSize * m + length (boxBytes b) ≡ half + boxSize * (m + 1) = omega (arith, boxBytes-length b (f .0)) in

@@ -15,12 +15,13 @@ use Rattle.policy.specs.Cut.{cut, cutEach}
 use Rattle.policy.proofs.Cuts.{cut-inside}
 use Rattle.policy.proofs.Moves.{proper-whole}
 use Rattle.policy.proofs.Proper.{proper-piece}
-use Rattle.wire.specs.Records.{boxesBytes, boxesIn, Fits}
+use Rattle.wire.specs.Records.{boxBytes, boxesBytes, boxesIn, Fits}
 use Rattle.wire.proofs.Records.{boxesBytes-length, boxesIn-length, boxes-back}
 use Rattle.wire.specs.Steps.{copiedDown}
 use Rattle.groups.specs.Steps.{places, Stored, Stands, Untouched, Taken}
 use Rattle.groups.proofs.Stores.{take-store, drop-store, store-fits}
-use Rattle.groups.proofs.Pieces.{boxes-bytes, proper-all, bytes-before}
+use Rattle.groups.proofs.Pieces.{proper-all, bytes-before}
+use Rattle.wire.proofs.Items.{bytes-append}
 
 -- The pieces of boxes that number 4 lets pass are such boxes.
 pub cutEach-proper : (ds : List Region) (a : Region) → Each Proper ds → Proper a → Each Proper (cutEach ds a)
@@ -82,7 +83,7 @@ module _ {half : ℕ} {work : List ℕ} {n : ℕ} {a : Region} {first : ℕ} {wo
           let front : take (boxSize * first) work₁ ≡ boxesBytes (take first (boxesIn n work)) =
           ap (take (boxSize * first)) (s .bytes) ∙ (take-store half (boxSize * first) work first later (omega (arith, u .upto)) ∙ bytes-before st (omega arith) first (u .upto)) in
           c ∙ (rw (front, stored) (sym (append-assoc (boxesBytes (take first (boxesIn n work))) (boxesBytes later) (drop (boxSize * m) work₁))
-          ∙ ap (λ (l : List ℕ). l ++ drop (boxSize * m) work₁) (sym (ap boxesBytes (u .left) ∙ boxes-bytes (take first (boxesIn n work)) later))))
+          ∙ ap (λ (l : List ℕ). l ++ drop (boxSize * m) work₁) (sym (ap boxesBytes (u .left) ∙ bytes-append boxBytes (take first (boxesIn n work)) later))))
 
       pub taken : Taken half work n a work₂ m
       taken =

@@ -17,7 +17,7 @@ use Rattle.policy.specs.Rules.{Rule, rule, Proper, sound, allowsIn}
 use Rattle.policy.specs.Cut.{cutEach, group}
 use Rattle.policy.specs.Move.{over}
 use Rattle.policy.proofs.Moves.{rule-proper}
-use Rattle.wire.specs.Records.{boxBytes, boxIn, boxesBytes, boxesIn, ruleIn, rulesIn, Fits}
+use Rattle.wire.specs.Records.{boxBytes, boxIn, boxesBytes, boxesIn, ruleIn, rulesIn, Fits, eachBytes, eachIn}
 use Rattle.wire.proofs.Records.{proper-fits, boxBytes-length, box-back, boxesIn-length, rulesIn-length, rule-in-place}
 use Rattle.groups.specs.Steps.{startAt, allowsAt, workedOf, GroupStands, WorkedOut, places, Stands, Taken}
 use Rattle.groups.specs.declared.Worked.the-variants.{Boxes, TooMany}
@@ -40,7 +40,7 @@ module _ (rules : List ℕ) (i j : ℕ) (t : j < i) {r : Rule} (e : r ≡ ruleIn
   left : drop j (rulesIn i rules) ≡ r ∷ drop (j + 1) (rulesIn i rules)
   left =
       let d : Rule = rule [] 0 in
-      drop-cons (rulesIn i rules) j d (rw rulesIn-length t) ∙ rw (add-one, rule-in-place j i rules d t, e)
+      drop-cons (rulesIn i rules) j d (rw rulesIn-length t) ∙ rw (add-one j, rule-in-place j i rules d t, e)
 
   pub left-deny : (r .action ≡ 1 → ⊥) → allowsIn (drop j (rulesIn i rules)) ≡ allowsIn (drop (j + 1) (rulesIn i rules))
   unfolding allowsIn
@@ -74,7 +74,7 @@ module _ (rules : List ℕ) (i : ℕ) (before work : List ℕ) (b : Region) (h :
   first-beyond n k = ap (drop n) f ∙ drop-sets n before 0 (boxBytes b) (omega (arith, boxBytes-length b own-fits))
 
   pub working-first : (half : ℕ) → boxSize ≤ length before → Working half work rules i work 1 0
-  unfolding boxesIn boxesBytes ruleIn Each
+  unfolding eachIn eachBytes ruleIn Each
   working-first half k =
       let l : length (boxBytes b) ≡ boxSize = boxBytes-length b own-fits in
       let z : 0 + length (boxBytes b) ≡ boxSize = omega arith in

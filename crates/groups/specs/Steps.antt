@@ -8,7 +8,7 @@ use lib.ListN.{length, take, drop}
 use Rattle.policy.specs.Fields.{fields, boxSize, recordSize, Limits, limits, workSize}
 use Rattle.policy.specs.Ranges.{Region}
 use Rattle.policy.specs.Cut.{group, cutEach}
-use Rattle.policy.specs.Move.{over}
+use Rattle.policy.specs.Move.{alone, over}
 use Rattle.policy.specs.Rules.{allowsIn, Proper}
 use Rattle.wire.specs.Records.{boxesBytes, ruleIn, rulesIn, boxBytes, boxesIn}
 use Rattle.groups.specs.declared.Worked.{Worked}
@@ -19,7 +19,7 @@ use Rattle.lists.specs.Lists.{Each}
 
 -- The box that the deny rule at place i of these records starts with, and the allows before it.
 abbrev pub startAt : ℕ → List ℕ → List Region
-startAt i s = ruleIn (drop (recordSize * i) s) .region ∷ []
+startAt i s = alone (ruleIn (drop (recordSize * i) s) .region)
 
 abbrev pub allowsAt : ℕ → List ℕ → List Region
 allowsAt i s = allowsIn (rulesIn i s)

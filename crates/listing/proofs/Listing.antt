@@ -17,10 +17,10 @@ use Rattle.policy.specs.Move.{together, denials, Pair, gateList}
 use Rattle.policy.specs.declared.Answer.the-variants.{Length, Refused}
 use Rattle.policy.specs.declared.Refusal.{Refusal}
 use Rattle.wire.specs.Numbers.{numberBytes, Byte}
-use Rattle.wire.specs.Records.{boxIn, boxesIn, recordBytes, recordsBytes}
+use Rattle.wire.specs.Records.{boxIn, recordBytes, recordsBytes, eachBytes, eachIn}
 use Rattle.wire.specs.Buffers.{zeroed, filled, written, lengthOf}
 use Rattle.wire.proofs.Numbers.{numberBytes-length, bytes-drop}
-use Rattle.wire.proofs.Records.{records-append, box-written-back, boxesIn-length, rulesIn-length, records-written-back}
+use Rattle.wire.proofs.Records.{box-written-back, boxesIn-length, rulesIn-length, records-written-back}
 use Rattle.wire.proofs.Buffers.{filled-is, filled-front}
 use Rattle.sheet.specs.Pairs.{groupSize, groupBoxes}
 use Rattle.sheet.specs.Steps.{rulesOf, groupsFrom, pairOf, pairHeard, PairPlace, boxCount}
@@ -34,6 +34,7 @@ use Rattle.planner.proofs.Good.{denials-length, gate-list-good}
 use Rattle.planner.proofs.Calls.{call-done}
 use Rattle.planner.proofs.Finished.{refuses}
 use Rattle.wire.specs.Lists.{countIn, listBytes}
+use Rattle.wire.proofs.Items.{bytes-append}
 
 -- the records of two lists, and the deny rules of two lists of boxes, one behind the other
 denials-append : (x y : List Region) → denials (x ++ y) ≡ denials x ++ denials y
@@ -48,7 +49,7 @@ denial-length s h b =
     rw (length-append, box-written-back s h b, numberBytes-length actionSize 0) (ap (λ (n : ℕ). n + actionSize) (length-take-le boxSize s h))
 
 box-records-length : (n : ℕ) (s : List ℕ) → boxSize * n ≤ length s → Each Byte s → length (boxRecords n s) ≡ recordSize * n
-unfolding boxesIn denials recordsBytes
+unfolding eachIn denials eachBytes
 box-records-length zero s h b = refl
 box-records-length (suc n) s h b =
     let i = box-records-length n (drop boxSize s) (rw length-drop (omega arith)) (bytes-drop boxSize s b) in
@@ -72,7 +73,7 @@ leads-next {list = list} {place = place} x rest g e = record {
 
 -- one box more
 box-more : (k : ℕ) (s : List ℕ) → boxRecords (suc k) s ≡ recordBytes (rule (boxIn s) 0) ++ boxRecords k (drop boxSize s)
-unfolding boxesIn denials recordsBytes
+unfolding eachIn denials eachBytes
 box-more k s = refl
 
 pub denials-next : {first all list : List ℕ} {at place left : ℕ} (sheet : List ℕ) (start : ℕ) → Each Byte sheet → 0 < left → start + boxSize ≤ length sheet
@@ -96,10 +97,10 @@ group-records : (k : ℕ) (s : List ℕ) → groupRecords (suc k) s ≡ boxRecor
 unfolding groupsFrom together
 group-records k s =
     let rest : List Region = together (groupsFrom k (drop (groupSize (countIn s)) s)) in
-    rw (denials-append (groupBoxes s) rest) (records-append (denials (groupBoxes s)) (denials rest))
+    rw (denials-append (groupBoxes s) rest) (bytes-append recordBytes (denials (groupBoxes s)) (denials rest))
 
 group-records-length : (k : ℕ) (s : List ℕ) → countSize * k + boxSize * boxCount k s ≤ length s → Each Byte s → length (groupRecords k s) ≡ recordSize * boxCount k s
-unfolding groupsFrom together denials recordsBytes
+unfolding groupsFrom together denials eachBytes
 group-records-length zero s h b = refl
 group-records-length (suc k) s h b =
     let n : ℕ = countIn s in
@@ -137,12 +138,12 @@ module _ (sheet : List ℕ) (start : ℕ) {n left : ℕ} (e : n ≡ countIn (dro
 
 -- nothing left
 pub denials-all : {first all list : List ℕ} {at place : ℕ} (left : ℕ) (s : List ℕ) → left ≤ 0 → Leads first at all list place (boxRecords left s) → list ≡ sets first at all
-unfolding boxesIn denials recordsBytes
+unfolding eachIn denials eachBytes
 denials-all zero s h g = g .onward
 denials-all (suc left) s h g = absurd (omega arith)
 
 pub groups-all : {first all list : List ℕ} {at place : ℕ} (left : ℕ) (s : List ℕ) → left ≤ 0 → Leads first at all list place (groupRecords left s) → list ≡ sets first at all
-unfolding groupsFrom together denials recordsBytes
+unfolding groupsFrom together denials eachBytes
 groups-all zero s h g = g .onward
 groups-all (suc left) s h g = absurd (omega arith)
 
@@ -177,7 +178,7 @@ module _ {s : List ℕ} {n m middle third boxes : ℕ} (p : PairPlace s n m midd
   cell-content =
       let bs : List Region = together (pair .groups) in
       let c : length (denials bs ++ rulesOf m (drop middle s)) ≡ boxes + m = rw (length-append, denials-length, rulesIn-length, ← p .boxesAre) refl in
-      rw (c, records-append (denials bs) (rulesOf m (drop middle s)), own-records) refl
+      rw (c, bytes-append recordBytes (denials bs) (rulesOf m (drop middle s)), own-records) refl
 
   -- the groups lie in the sheet, and have all its boxes
   pub cell-groups : (g : ℕ) → g ≡ groups
@@ -202,7 +203,7 @@ module _ {s : List ℕ} {n m middle third boxes : ℕ} (p : PairPlace s n m midd
 -- The gate list: the count and the one rule, which fill it.
 pub gate-put : (p : Pair) (list c₁ last : List ℕ) (r : Rule) → gateListSize ≤ length list → r ≡ rule full 1 → c₁ ≡ sets list 0 (numberBytes countSize 1)
     → last ≡ sets c₁ countSize (recordBytes r) → ListPut (gateBytes p) gateListSize list gateListSize last
-unfolding gateBytes listBytes recordsBytes
+unfolding gateBytes listBytes eachBytes
 gate-put p list c₁ last r h e f g =
     let l : length (gateBytes p) ≡ gateListSize = listBytes-length (gateList p) (faultless-fits (limits .total) (gateList p) (omega arith) (gate-list-good limits p (omega arith)) .rules) in
     let head : List ℕ = numberBytes countSize 1 in

@@ -15,11 +15,11 @@ use Rattle.policy.specs.declared.Refusal.the-variants.{BufferShort}
 use Rattle.policy.specs.declared.Answer.{Answer}
 use Rattle.policy.specs.declared.Answer.the-variants.{Length, Refused}
 use Rattle.policy.proofs.Answers.{said-once}
-use Rattle.wire.specs.Buffers.{filled, written, lengthOf}
+use Rattle.wire.specs.Buffers.{roomFor, filled, written, lengthOf}
 use Rattle.sheet.specs.Orders.{orderBytes, orderSize}
 use Rattle.wire.proofs.Buffers.{refusal-leaves}
 use Rattle.orders.specs.Join.{Join, joinOf}
-use Rattle.sheet.specs.Steps.{ListPlace, ListPlaced, ListRead}
+use Rattle.sheet.specs.Steps.{ListPlace, OfRules, ListRead}
 use Rattle.sheet.specs.declared.Section.{Section}
 use Rattle.sheet.specs.declared.Section.the-variants as S
 use Rattle.sheet.proofs.Parts.{bytes-of, part-from}
@@ -47,7 +47,7 @@ filled-both out first second copied part m n e h g u v =
     rw (t, z, append-nil, y, append-assoc, r) refl
 
 list-place : {most : ℕ} {s : List ℕ} {r : Section} → ListRead most s r → (n next : ℕ) → r ≡ S.Rules n next → ListPlace most s n next
-unfolding ListPlaced
+unfolding OfRules
 list-place x n next e = rw e at (x .place)
 
 -- Both lists fit the sheet.
@@ -65,24 +65,24 @@ module _ (a b out : List ℕ) where
   refusing f e = record { answer = rw e refl; sheet = refusal-leaves orderBytes (orderSize limits) out e }
 
   pub sheet-short : length out < orderSize limits → Join a b out (Refused BufferShort) out
-  unfolding joinOf
+  unfolding joinOf roomFor
   sheet-short h = refusing BufferShort (rw (lt-leb (orderSize limits) (length out) h) refl)
 
   module _ (x : orderSize limits ≤ length out) {r : Section} (g : ListRead (limits .gate) a r) where
     pub join-gate-fault : (f : Refusal) → r ≡ S.Fault f → Join a b out (Refused f) out
-    unfolding joinOf
+    unfolding joinOf roomFor
     join-gate-fault f e = refusing f (rw (le-leb (orderSize limits) (length out) x, list-refused g f e) refl)
 
     module _ (ba : (i : ℕ) → Fits w8 (getD a i 0)) (n m : ℕ) (e : r ≡ S.Rules n m) {q : Section} (h : ListRead (limits .own) b q) where
       pub join-own-fault : (f : Refusal) → q ≡ S.Fault f → Join a b out (Refused f) out
-      unfolding joinOf
+      unfolding joinOf roomFor
       join-own-fault f i =
           refusing f (rw (le-leb (orderSize limits) (length out) x, list-accepted g (bytes-of a ba) n m e .reads, list-refused h f i) refl)
 
       pub join-done :
           ((i : ℕ) → Fits w8 (getD b i 0)) → (j k : ℕ) → q ≡ S.Rules j k → {last : List ℕ} → last ≡ filled (orderSize limits) out (a ++ b)
           → Join a b out (Length (length a + length b)) last
-      unfolding joinOf lengthOf written orderBytes
+      unfolding joinOf lengthOf written orderBytes roomFor
       join-done bb j k i u =
           let z = list-accepted g (bytes-of a ba) n m e in
           let w = list-accepted h (bytes-of b bb) j k i in

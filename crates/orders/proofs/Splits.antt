@@ -15,7 +15,7 @@ use Rattle.policy.specs.declared.Refusal.the-variants.{BufferShort}
 use Rattle.policy.specs.declared.Answer.{Answer}
 use Rattle.policy.specs.declared.Answer.the-variants.{Length, Refused}
 use Rattle.policy.proofs.Answers.{said-once}
-use Rattle.wire.specs.Buffers.{filled, written, lengthOf}
+use Rattle.wire.specs.Buffers.{roomFor, filled, written, lengthOf}
 use Rattle.sheet.specs.Orders.{orderIn, gateSize, ownSize}
 use Rattle.wire.proofs.Buffers.{refusal-leaves}
 use Rattle.orders.specs.Split.{Split, splitOf, firstBytes, secondBytes}
@@ -54,17 +54,17 @@ module _ (s a b : List ℕ) where
   refusing f e = record { answer = rw e refl; gate = refusal-leaves firstBytes (gateSize limits) a e; own = refusal-leaves secondBytes (ownSize limits) b e }
 
   pub gate-short : length a < gateSize limits → Split s a b (Refused BufferShort) a b
-  unfolding splitOf
+  unfolding splitOf roomFor
   gate-short h = refusing BufferShort (rw (lt-leb (gateSize limits) (length a) h) refl)
 
   module _ (x : gateSize limits ≤ length a) where
     pub own-short : length b < ownSize limits → Split s a b (Refused BufferShort) a b
-    unfolding splitOf
+    unfolding splitOf roomFor
     own-short h = refusing BufferShort (rw (le-leb (gateSize limits) (length a) x, lt-leb (ownSize limits) (length b) h) refl)
 
     module _ (y : ownSize limits ≤ length b) {r : OrderParts} (z : OrderRead s r) where
       roomy : splitOf limits s a b ≡ orderIn limits s
-      unfolding splitOf
+      unfolding splitOf roomFor
       roomy = rw (le-leb (gateSize limits) (length a) x, le-leb (ownSize limits) (length b) y) refl
 
       pub split-fault : (f : Refusal) → r ≡ O.Fault f → Split s a b (Refused f) a b

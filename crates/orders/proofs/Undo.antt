@@ -15,7 +15,7 @@ use Rattle.policy.specs.declared.Answer.{Answer}
 use Rattle.policy.specs.declared.Answer.the-variants.{Length}
 use Rattle.policy.proofs.Answers.{said-once, test-accepted}
 use Rattle.wire.specs.Numbers.{Byte}
-use Rattle.wire.specs.Buffers.{filled, written, lengthOf}
+use Rattle.wire.specs.Buffers.{roomFor, filled, written, lengthOf}
 use Rattle.sheet.specs.Orders.{order, orderIn, orderBytes, listIn, gateSize, ownSize, orderSize}
 use Rattle.orders.specs.Split.{Split, splitOf, firstBytes, secondBytes}
 use Rattle.orders.specs.Join.{Join, joinOf}
@@ -36,7 +36,7 @@ record SplitAccepted (s a b : List ℕ) (n : ℕ) (a′ b′ : List ℕ) : Type 
   pub own : b′ ≡ filled (ownSize limits) b (listBytes (lists .own))
 
 split-accepted : {s a b : List ℕ} {n : ℕ} {a′ b′ : List ℕ} → Split s a b (Length n) a′ b′ → SplitAccepted s a b n a′ b′
-unfolding splitOf lengthOf written
+unfolding splitOf lengthOf written roomFor
 split-accepted {s} {a} {b} {n} {a′} {b′} x = go (splitOf limits s a b) refl (x .answer) (x .gate) (x .own)
   where
     go : (y : Outcome Order) → splitOf limits s a b ≡ y → said (Length n) ≡ lengthOf firstBytes y → a′ ≡ written firstBytes (gateSize limits) a y → b′ ≡ written secondBytes (ownSize limits) b y
@@ -56,7 +56,7 @@ record JoinAccepted (a b out : List ℕ) (n : ℕ) (out′ : List ℕ) : Type 0 
   pub sheet : out′ ≡ filled (orderSize limits) out (orderBytes lists)
 
 join-accepted : {a b out : List ℕ} {n : ℕ} {out′ : List ℕ} → Join a b out (Length n) out′ → JoinAccepted a b out n out′
-unfolding joinOf lengthOf written
+unfolding joinOf lengthOf written roomFor
 join-accepted {a} {b} {out} {n} {out′} x = go (joinOf limits a b out) refl (x .answer) (x .sheet)
   where
     go : (y : Outcome Order) → joinOf limits a b out ≡ y → said (Length n) ≡ lengthOf orderBytes y → out′ ≡ written orderBytes (orderSize limits) out y → JoinAccepted a b out n out′
@@ -78,7 +78,7 @@ join-accepted {a} {b} {out} {n} {out′} x = go (joinOf limits a b out) refl (x 
 pub split-then-join :
     {s a b a′ b′ out out′ : List ℕ} {n : ℕ} {r : Answer} → Each Byte s → Split s a b (Length n) a′ b′ → orderSize limits ≤ length out
     → Join (take n a′) (take (length s - n) b′) out r out′ → (r ≡ Length (length s)) × (out′ ≡ filled (orderSize limits) out s)
-unfolding orderBytes joinOf lengthOf written
+unfolding orderBytes joinOf lengthOf written roomFor
 split-then-join {s} {a} {b} {a′} {b′} {out} {out′} {n} {r} h x g y =
     let p = split-accepted x in
     let o = p .lists in
@@ -107,7 +107,7 @@ pub join-then-split :
     {a b out out′ x y x′ y′ : List ℕ} {n : ℕ} {r : Answer} → Each Byte a → Each Byte b → Join a b out (Length n) out′
     → gateSize limits ≤ length x → ownSize limits ≤ length y → Split (take n out′) x y r x′ y′
     → (r ≡ Length (length a)) × (x′ ≡ filled (gateSize limits) x a) × (y′ ≡ filled (ownSize limits) y b)
-unfolding splitOf lengthOf written
+unfolding splitOf lengthOf written roomFor
 join-then-split {a} {b} {out} {out′} {x} {y} {x′} {y′} {n} {r} h k j g w z =
     let p = join-accepted j in
     let o = p .lists in

@@ -2,19 +2,17 @@
 use mathlib.Core.Path.{_≡_}
 use mathlib.Core.List.{List}
 use Prim.Native.Nat.{ℕ}
-use lib.Dec.{leb}
-use lib.ListN.{length}
 use Rattle.policy.specs.Fields.{Limits, limits}
 use Rattle.policy.specs.Refusals.{Outcome, accepted, test, andThen, said}
 use Rattle.policy.specs.Move.{Order}
 use Rattle.policy.specs.declared.Answer.{Answer}
-use Rattle.wire.specs.Buffers.{written, lengthOf}
+use Rattle.wire.specs.Buffers.{roomFor, written, lengthOf}
 use Rattle.sheet.specs.Orders.{order, orderBytes, listIn, orderSize}
 
 -- 1 is first; then A is read whole, its left-over bytes last, and then B.
 unfoldable pub joinOf : Limits → List ℕ → List ℕ → List ℕ → Outcome Order
 joinOf lim a b out =
-    test (leb (orderSize lim) (length out)) 1
+    test (roomFor (orderSize lim) out) 1
     (andThen (listIn (lim .gate) a) (λ g. andThen (listIn (lim .own) b) (λ w. accepted (order g w))))
 
 -- The answer is the sheet's length; it is zero behind its content; a refusal leaves it as it was.

@@ -2,19 +2,17 @@
 use mathlib.Core.Path.{_≡_}
 use mathlib.Core.List.{List}
 use Prim.Native.Nat.{ℕ}
-use lib.Dec.{leb}
-use lib.ListN.{length}
 use Rattle.policy.specs.Fields.{Limits, limits}
 use Rattle.policy.specs.Refusals.{Outcome, test, said}
 use Rattle.policy.specs.Move.{Order}
 use Rattle.policy.specs.declared.Answer.{Answer}
-use Rattle.wire.specs.Buffers.{written, lengthOf}
+use Rattle.wire.specs.Buffers.{roomFor, written, lengthOf}
 use Rattle.sheet.specs.Orders.{orderIn, gateSize, ownSize}
 use Rattle.wire.specs.Lists.{listBytes}
 
 -- 1 is first: both buffers are long enough. Then the whole order sheet is read.
 unfoldable pub splitOf : Limits → List ℕ → List ℕ → List ℕ → Outcome Order
-splitOf lim s a b = test (leb (gateSize lim) (length a)) 1 (test (leb (ownSize lim) (length b)) 1 (orderIn lim s))
+splitOf lim s a b = test (roomFor (gateSize lim) a) 1 (test (roomFor (ownSize lim) b) 1 (orderIn lim s))
 
 -- The bytes of the two lists.
 abbrev pub firstBytes : Order → List ℕ

@@ -13,8 +13,8 @@ use Rattle.policy.specs.declared.Answer.{Answer}
 use Rattle.policy.specs.declared.Answer.the-variants.{Refused}
 use Rattle.policy.specs.declared.Refusal.the-variants.{BufferShort}
 use Rattle.policy.proofs.Answers.{said-once}
-use Rattle.wire.specs.Buffers.{zeroed, written, lengthOf}
-use Rattle.planner.specs.Calls.{roomFor, workAfter, Call}
+use Rattle.wire.specs.Buffers.{zeroed, written, lengthOf, roomFor}
+use Rattle.planner.specs.Calls.{workAfter, Call}
 use Rattle.planner.specs.Steps.{Writes}
 
 -- the two tests of what is lent

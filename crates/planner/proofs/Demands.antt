@@ -15,7 +15,8 @@ use Rattle.lists.proofs.Lists.{each-append, each-take, each-drop}
 use Rattle.policy.specs.Fields.{recordSize, Limits, limits}
 use Rattle.policy.specs.Rules.{Rule}
 use Rattle.policy.specs.Refusals.{Outcome, accepted, refused, andThen, given, unless, orElse}
-use Rattle.policy.specs.Move.{slotsOf, together, work, room, Order, Pair, moved, gateList, cellList, listRefusal, moveRefusal}
+use Rattle.policy.specs.Move.{slotsOf, together, work, room, Order, Pair, moved, gateList, cellList}
+use Rattle.policy.proofs.Refused.{listRefusal, moveRefusal}
 use Rattle.policy.specs.Check.{checkRefusal}
 use Rattle.policy.specs.Edit.{Kind, out, put, changed, hasPlace, newOrder, placeFound, edited, changeRefusal}
 use Rattle.policy.proofs.Answers.{test-accepted, unless-accepted}
@@ -35,7 +36,7 @@ use Rattle.sheet.proofs.Outcomes.{through, faultless}
 use Rattle.sheet.proofs.Orders.{ListFits, faultless-fits, order-back, order-faultless, order-written-back, list-back}
 use Rattle.sheet.proofs.Pairs.{pair-back, pair-good, pair-written-back}
 use Rattle.sheet.proofs.Lengths.{other-length-refused}
-use Rattle.planner.specs.Calls.{planOf, moveOf, checkedOf, checkOf}
+use Rattle.planner.specs.Calls.{planOf, moveOf, checkedOf, checkOf, gateBytes, cellBytes}
 use Rattle.planner.specs.Edits.{Asked, kindOf, editOf, wholeRecord, changeOf, editedOf}
 use Rattle.planner.specs.Theorems.{held, DemandTwo, CheckIsMove}
 use Rattle.planner.specs.declared.Change.{Change}
@@ -124,7 +125,7 @@ module _ (lim : Limits) (small : Small lim) where
       }
 
   moved-demand-two : (s : List ℕ) (o : Order) → Each Byte s → orderIn lim s ≡ accepted o → moveRefusal lim o ≡ 0 → DemandTwo lim s o (moved o)
-  unfolding checkOf checkedOf
+  unfolding checkOf checkedOf gateBytes cellBytes
   moved-demand-two s o b e h =
       let f = list-accepted (lim .gate) (o .gate) (move-accepted lim o h .gate) in
       let k = sheet-back o h in

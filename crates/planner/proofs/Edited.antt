@@ -13,7 +13,8 @@ use Rattle.policy.specs.Fields.{Limits}
 use Rattle.policy.specs.Ranges.{Region}
 use Rattle.policy.specs.Rules.{Rule, complete, denies, allowsIn, anyAllow}
 use Rattle.policy.specs.Refusals.{given, orElse, faults}
-use Rattle.policy.specs.Move.{Slot, kept, slots, startOf, boxesOf, together, work, room, Order, Pair, badCount, listRefusal}
+use Rattle.policy.specs.Move.{Slot, kept, slots, startOf, boxesOf, together, work, room, Order, Pair, badCount}
+use Rattle.policy.proofs.Refused.{listRefusal}
 use Rattle.policy.specs.Edit.{Kind, out, put, front, gone, back, changed, around, Edit, edited, changeRefusal}
 use Rattle.policy.proofs.Numbers.{orElse-zero, orElse-both, given-zero}
 use Rattle.policy.proofs.Edits.{slots-length, kept-boxes, faults-append, allowsIn-append, changed-faults, list-accepted}

@@ -13,7 +13,8 @@ use Rattle.policy.specs.Fields.{countSize, recordSize, limits, workSize}
 use Rattle.policy.specs.Ranges.{Region}
 use Rattle.policy.specs.Rules.{Rule, denies, sound}
 use Rattle.policy.specs.Refusals.{Outcome, refused, faults, numberOf}
-use Rattle.policy.specs.Move.{Slot, kept, boxesOf, together, anyOver, work, room, Order, Pair, listRefusal}
+use Rattle.policy.specs.Move.{Slot, kept, boxesOf, together, anyOver, work, room, Order, Pair, groupsOf}
+use Rattle.policy.proofs.Refused.{listRefusal}
 use Rattle.policy.specs.declared.Answer.the-variants.{Length, Refused}
 use Rattle.policy.specs.declared.Refusal.{Refusal}
 use Rattle.policy.specs.declared.Refusal.the-variants.{TooManyBoxes}
@@ -25,17 +26,17 @@ use Rattle.wire.specs.Buffers.{filled, written, lengthOf}
 use Rattle.wire.proofs.Records.{rulesIn-length}
 use Rattle.wire.proofs.Numbers.{numberBytes-length, bytes-take, bytes-drop}
 use Rattle.sheet.specs.Orders.{orderBytes}
-use Rattle.sheet.specs.Pairs.{groupsBytes, pairBytes, pairSize}
+use Rattle.sheet.specs.Pairs.{groupsBytes, pairBytes, pairSize, groupBytes}
 use Rattle.sheet.specs.Steps.{rulesOf, listsOf, groupsFrom, boxCount}
 use Rattle.sheet.proofs.Outcomes.{faultless}
 use Rattle.sheet.proofs.Pairs.{ProperGroup, PairGood, denies-most}
 use Rattle.sheet.proofs.Accepted.{OrderAccepted, order-accepted}
-use Rattle.draft.specs.Steps.{stretch, slotGroups, draftSize, Ready, DraftedGroups, partOf, sheetOf, orderOf, groupsAt, sheetAround, AroundPut, runSize, GroupsHeld, keptSlots, slotsBehind, slotsAround, Told, Behind}
+use Rattle.draft.specs.Steps.{stretch, draftSize, Ready, DraftedGroups, partOf, sheetOf, orderOf, groupsAt, sheetAround, AroundPut, runSize, GroupsHeld, keptSlots, slotsBehind, slotsAround, Told, Behind}
 use Rattle.draft.specs.declared.kept.Standing.{Standing}
 use Rattle.draft.specs.declared.Drafted.{Drafted}
 use Rattle.draft.specs.declared.Drafted.the-variants as D
 use Rattle.draft.proofs.Drawn.{drawn-behind}
-use Rattle.draft.proofs.Drafts.{groupsBytes-append, rules-front, rules-sound-front}
+use Rattle.draft.proofs.Drafts.{rules-front, rules-sound-front}
 use Rattle.planner.proofs.Good.{rest-proper, pair-short}
 use Rattle.planner.specs.Steps.{Writes, slotted, Finishing, Finishes, AllAnew}
 use Rattle.draft.specs.declared.Around.{Around}
@@ -43,6 +44,7 @@ use Rattle.draft.proofs.Runs.{groups-count, held-front}
 use Rattle.draft.proofs.Laid.{groups-laid}
 use Rattle.wire.specs.Lists.{listSize}
 use Rattle.wire.proofs.Buffers.{refusal-leaves}
+use Rattle.wire.proofs.Items.{bytes-append}
 
 -- A refusal writes nothing.
 pub refuses : {A : Type 0} (bytes : A → List ℕ) (size : ℕ) (x : Outcome A) (out w w′ : List ℕ) (f : Refusal)
@@ -129,7 +131,7 @@ module _ {sheet list w : List ℕ} {t : Standing} {gate own : ℕ} {v : Around} 
       let f = faultless (limits .gate) (rulesOf gate list) clean in
       (rw length-drop (omega (arith, ready .long)), rules-sound-front i gate (drop countSize list) h (f .sounds))
 
-  anew-proper : Each ProperGroup (slotGroups anew)
+  anew-proper : Each ProperGroup (groupsOf anew)
   anew-proper =
       let q = ready .placed in
       let f = list-accepted (limits .gate) (rulesOf gate list) clean .0 in
@@ -137,14 +139,14 @@ module _ {sheet list w : List ℕ} {t : Standing} {gate own : ℕ} {v : Around} 
       rw (rules-front (v .to) gate (drop countSize list) (q .inGate)) at (orElse-zero (faults (take (v .to) (rulesOf gate list))) (faults (drop (v .to) (rulesOf gate list))) (sym (faults-append (take (v .to) (rulesOf gate list)) (drop (v .to) (rulesOf gate list))) ∙ rw (take-append-drop (v .to) (rulesOf gate list)) f) .0) in
       stretch-proper (v .place) (v .to) (drop countSize list) (q .upTo) s
 
-  behind-groups : slotGroups behind ≡ slotGroups anew ++ drop (v .later) (groupsFrom (v .groups) groups)
-  behind-groups = map-append boxesOf anew _ ∙ ap (λ (x : List (List Region)). slotGroups anew ++ x) (kept-boxes (drop (v .later) (groupsFrom (v .groups) groups)))
+  behind-groups : groupsOf behind ≡ groupsOf anew ++ drop (v .later) (groupsFrom (v .groups) groups)
+  behind-groups = map-append boxesOf anew _ ∙ ap (λ (x : List (List Region)). groupsOf anew ++ x) (kept-boxes (drop (v .later) (groupsFrom (v .groups) groups)))
 
-  behind-proper : Each ProperGroup (slotGroups behind)
-  behind-proper = rw behind-groups (each-append ProperGroup (slotGroups anew) _ anew-proper (each-drop ProperGroup (v .later) (groupsFrom (v .groups) groups) (ready .held .boxes)))
+  behind-proper : Each ProperGroup (groupsOf behind)
+  behind-proper = rw behind-groups (each-append ProperGroup (groupsOf anew) _ anew-proper (each-drop ProperGroup (v .later) (groupsFrom (v .groups) groups) (ready .held .boxes)))
 
-  all-groups : p .groups ≡ groupsFrom (v .earlier) groups ++ slotGroups behind
-  all-groups = map-append boxesOf (keptSlots 0 (v .earlier) groups) behind ∙ ap (λ (x : List (List Region)). x ++ slotGroups behind) (kept-boxes (groupsFrom (v .earlier) groups))
+  all-groups : p .groups ≡ groupsFrom (v .earlier) groups ++ groupsOf behind
+  all-groups = map-append boxesOf (keptSlots 0 (v .earlier) groups) behind ∙ ap (λ (x : List (List Region)). x ++ groupsOf behind) (kept-boxes (groupsFrom (v .earlier) groups))
 
   proper-all : Each ProperGroup (p .groups)
   proper-all = rw all-groups (each-append ProperGroup (groupsFrom (v .earlier) groups) _ (front-held .boxes) behind-proper)
@@ -197,12 +199,12 @@ module _ {sheet list w : List ℕ} {t : Standing} {gate own : ℕ} {v : Around} 
       boxes-are : b ≡ length (together (p .groups))
       unfolding Told
       boxes-are =
-          let e : length (together (p .groups)) ≡ boxCount (v .earlier) groups + length (together (slotGroups behind)) =
-          ap (λ (g : List (List Region)). length (together g)) all-groups ∙ rw (together-append (groupsFrom (v .earlier) groups) (slotGroups behind)) (length-append (together (groupsFrom (v .earlier) groups)) (together (slotGroups behind))) in
+          let e : length (together (p .groups)) ≡ boxCount (v .earlier) groups + length (together (groupsOf behind)) =
+          ap (λ (g : List (List Region)). length (together g)) all-groups ∙ rw (together-append (groupsFrom (v .earlier) groups) (groupsOf behind)) (length-append (together (groupsFrom (v .earlier) groups)) (together (groupsOf behind))) in
           let d = x .told .1 in
           omega arith
 
-      behind-few : length (together (slotGroups behind)) ≤ b
+      behind-few : length (together (groupsOf behind)) ≤ b
       unfolding Told
       behind-few = let d = x .told .1 in omega arith
 
@@ -231,7 +233,7 @@ module _ {sheet list w : List ℕ} {t : Standing} {gate own : ℕ} {v : Around} 
           groups = record { boxes = proper-all; within = omega (arith, boxes-are, own-are) };
         }
 
-        drafted : (end ≤ length s) × (take end s ≡ groupsBytes (slotGroups behind))
+        drafted : (end ≤ length s) × (take end s ≡ groupsBytes (groupsOf behind))
         unfolding Told
         drafted = x .told .2 (omega arith)
 
@@ -243,7 +245,7 @@ module _ {sheet list w : List ℕ} {t : Standing} {gate own : ℕ} {v : Around} 
           section = take size (drop from sheet) ++ take end s
 
           content : section ≡ groupsBytes (p .groups)
-          content = rw (sized, front-is, drafted .1) (sym (ap groupsBytes all-groups ∙ groupsBytes-append (groupsFrom (v .earlier) groups) (slotGroups behind)))
+          content = rw (sized, front-is, drafted .1) (sym (ap groupsBytes all-groups ∙ bytes-append groupBytes (groupsFrom (v .earlier) groups) (groupsOf behind)))
 
           number : n ≡ length (p .groups)
           number = count-is ∙ ap denies (sym (ready .front)) ∙ sym (good .counted)
@@ -257,7 +259,7 @@ module _ {sheet list w : List ℕ} {t : Standing} {gate own : ℕ} {v : Around} 
 
           pub finish-put : (rest : ℕ) → rest ≡ n - v .earlier → AroundPut sheet t size list gate n rest (take end s)
           finish-put rest e =
-              let k : rest ≡ length (slotGroups behind) = omega (arith, count-is, ready .counted, all-length, length-map behind boxesOf) in
+              let k : rest ≡ length (groupsOf behind) = omega (arith, count-is, ready .counted, all-length, length-map behind boxesOf) in
               let t = pair-short limits p (omega arith) (omega arith) good (omega arith) in
               let fl : length (take size (drop from sheet)) ≡ size = length-take-le size (drop from sheet) (rw length-drop (omega (arith, sized, front-held .there, groups-long, ready .end, ready .start))) in
               let b : length (partOf middle third sheet) ≡ third - middle = length-take-le (third - middle) (drop middle sheet) (rw length-drop (omega (arith, ready .upTo, ready .start, ready .end))) in
@@ -269,7 +271,7 @@ module _ {sheet list w : List ℕ} {t : Standing} {gate own : ℕ} {v : Around} 
                 upTo = ready .upTo;
                 old = omega (arith, sized, front-held .there, groups-long, ready .end, ready .start);
                 moved = ready .moved;
-                laid = rw (k, drafted .1) (groups-laid (slotGroups behind) behind-proper (omega (arith, behind-few)));
+                laid = rw (k, drafted .1) (groups-laid (groupsOf behind) behind-proper (omega (arith, behind-few)));
                 few = omega (arith, count-is, denies-most (rulesOf gate list), rulesIn-length gate (drop countSize list), a .place .gateLimit);
                 fits = omega (arith, ap length sheet-is);
                 room = ready .sheetRoom;

@@ -14,7 +14,8 @@ use Rattle.policy.specs.Fields.{highest, boxSize, countSize, Limits}
 use Rattle.policy.specs.Ranges.{Region, proper, everyField, fullOver}
 use Rattle.policy.specs.Rules.{Rule, sound, complete, allowsIn, Proper}
 use Rattle.policy.specs.Refusals.{faults}
-use Rattle.policy.specs.Move.{Slot, slots, slotsOf, startOf, boxesOf, together, work, room, Order, Pair, moved, denials, gateList, cellList, listRefusal, moveRefusal}
+use Rattle.policy.specs.Move.{Slot, slots, slotsOf, startOf, boxesOf, together, work, room, Order, Pair, moved, denials, gateList, cellList}
+use Rattle.policy.proofs.Refused.{listRefusal, moveRefusal}
 use Rattle.policy.proofs.Numbers.{orElse-zero, orElse-both, given-zero}
 use Rattle.policy.proofs.Proper.{moved-proper}
 use Rattle.policy.proofs.Edits.{slots-append, move-accepted, list-accepted, slots-length, faults-append}

@@ -12,8 +12,8 @@ use Rattle.policy.specs.Refusals.{Outcome, accepted, refused, test, said}
 use Rattle.policy.specs.declared.Answer.{Answer}
 use Rattle.policy.specs.declared.Answer.the-variants.{Length}
 use Rattle.policy.proofs.Answers.{test-accepted}
-use Rattle.wire.specs.Buffers.{filled, written, lengthOf}
-use Rattle.planner.specs.Calls.{roomFor, Call}
+use Rattle.wire.specs.Buffers.{filled, written, lengthOf, roomFor}
+use Rattle.planner.specs.Calls.{Call}
 
 -- Content that leaves a buffer's length as it was ends where the zeros behind it end, or before.
 pub filled-within : (end : ℕ) (out content : List ℕ) → end ≤ length out → length (filled end out content) ≡ length out → length content ≤ end

@@ -14,9 +14,9 @@ use Rattle.policy.specs.declared.Answer.{Answer}
 use Rattle.policy.specs.declared.Answer.the-variants.{Refused}
 use Rattle.policy.specs.declared.Refusal.{Refusal}
 use Rattle.policy.proofs.Edits.{slots-length}
-use Rattle.wire.specs.Records.{rulesIn}
+use Rattle.wire.specs.Records.{eachBytes, eachIn}
 use Rattle.sheet.specs.Orders.{orderIn}
-use Rattle.sheet.specs.Pairs.{groupsBytes, pairBytes, pairSize}
+use Rattle.sheet.specs.Pairs.{pairBytes, pairSize}
 use Rattle.sheet.specs.Steps.{rulesOf, listsOf, groupsFrom, OrderRead}
 use Rattle.sheet.specs.declared.OrderParts.the-variants.{Parts}
 use Rattle.sheet.proofs.Accepted.{OrderAccepted}
@@ -40,7 +40,7 @@ module _ {s : List ℕ} {n m middle : ℕ} (a : OrderAccepted s n m middle) wher
   o = listsOf n m middle s
 
   all-anew : (groups : List ℕ) → slotsAround (fresh n) groups (drop countSize s) ≡ slotsOf o
-  unfolding groupsFrom rulesIn allowsIn
+  unfolding groupsFrom eachIn allowsIn
   all-anew groups = append-none (slotsOf o)
 
   -- nothing stands in the sheet, wherever the groups are to begin
@@ -53,7 +53,7 @@ module _ {s : List ℕ} {n m middle : ℕ} (a : OrderAccepted s n m middle) wher
 
     pub plan-ready : {w : List ℕ} (to : ℕ) → to ≡ n → end ≡ length s → OrderRead s (Parts n m middle) → pairSize limits ≤ length sheet → workSize limits ≤ length w
         → Finishing sheet t s n m (fresh to) w
-    unfolding groupsFrom groupsBytes together Each
+    unfolding groupsFrom eachBytes together Each
     plan-ready to e f reads h j =
         let l = a .place .ownEnd in
         let k = a .place .gateEnd in

@@ -11,16 +11,17 @@ use borrow.Author.Tests.{leb-true}
 use Rattle.lists.proofs.Tests.{and-true}
 use Rattle.policy.specs.Fields.{limits, workSize}
 use Rattle.policy.specs.Refusals.{Outcome, accepted, refused, test, said}
-use Rattle.policy.specs.Move.{Order, Pair, moved, moveRefusal}
+use Rattle.policy.specs.Move.{Order, Pair, moved}
+use Rattle.policy.proofs.Refused.{moveRefusal}
 use Rattle.policy.specs.Edit.{newOrder, allDone}
 use Rattle.policy.specs.declared.Answer.{Answer}
 use Rattle.policy.specs.declared.Answer.the-variants.{Length, Refused}
 use Rattle.policy.proofs.Answers.{said-once, test-accepted}
-use Rattle.wire.specs.Buffers.{filled, written, lengthOf, answered}
+use Rattle.wire.specs.Buffers.{filled, written, lengthOf, answered, roomFor}
 use Rattle.sheet.specs.Orders.{orderBytes}
 use Rattle.sheet.specs.Pairs.{pairIn, pairBytes, pairSize}
 use Rattle.sheet.proofs.Outcomes.{through}
-use Rattle.planner.specs.Calls.{roomFor, bothLent, moveOf, checkOf}
+use Rattle.planner.specs.Calls.{bothLent, moveOf, checkOf}
 use Rattle.planner.specs.Edits.{editOf, changeOf, editedOf, editLent}
 use Rattle.planner.specs.Theorems.{
   Held,

@@ -4,21 +4,15 @@ use mathlib.Core.Path.{_≡_}
 use mathlib.Core.List.{List}
 use mathlib.Core.Bool.{Bool, cond, _&&_}
 use Prim.Native.Nat.{ℕ}
-use lib.Dec.{leb}
-use lib.ListN.{length}
-use Rattle.policy.specs.Fields.{Limits, limits, workSize}
+use Rattle.policy.specs.Fields.{boxSize, recordSize, Limits, limits, workSize}
 use Rattle.policy.specs.Refusals.{Outcome, test, andThen, unless, said}
 use Rattle.policy.specs.Move.{slotsOf, room, Order, Pair, moved, gateList, cellList}
 use Rattle.policy.specs.Check.{checkRefusal}
 use Rattle.policy.specs.declared.Answer.{Answer}
-use Rattle.wire.specs.Buffers.{zeroed, written, lengthOf, answered}
-use Rattle.sheet.specs.Orders.{orderIn}
+use Rattle.wire.specs.Buffers.{roomFor, zeroed, written, lengthOf, answered}
+use Rattle.sheet.specs.Orders.{orderIn, gateSize, ownSize, orderSize}
 use Rattle.sheet.specs.Pairs.{pairIn, pairBytes, pairSize}
 use Rattle.wire.specs.Lists.{listSize, listBytes}
-
--- Number 1: what is lent is long enough.
-unfoldable pub roomFor : ℕ → List ℕ → Bool
-roomFor n out = leb n (length out)
 
 -- What is left of the work buffer: 1 leaves it alone, any other answer leaves its front zero.
 unfoldable pub workAfter : Limits → Bool → List ℕ → List ℕ
@@ -71,3 +65,12 @@ gateListSize = listSize 1
 
 abbrev pub Lists : (Pair → List ℕ) → ℕ → List ℕ → List ℕ → List ℕ → Answer → List ℕ → List ℕ → Type 0
 Lists bytes size s out w r out′ w′ = Call bytes size (bothLent size out w) (checkOf limits s) out w r out′ w′
+
+-- 01, Sheets and Calls: the printed sizes are what the table and the limits come to. A box, a record; the A list, the B list, the
+-- order sheet; the pair sheet, the cell list, the gate list; the work buffer.
+abbrev pub SizesTheorem : Type 0
+SizesTheorem =
+    ((boxSize ≡ 26) × (recordSize ≡ 27))
+    × ((gateSize limits ≡ 1730) × (ownSize limits ≡ 6914) × (orderSize limits ≡ 8644))
+    × ((pairSize limits ≡ 28742) × (cellListSize ≡ 27650) × (gateListSize ≡ 29))
+    × (workSize limits ≡ 53248)

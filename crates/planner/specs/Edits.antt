@@ -11,7 +11,8 @@ use Rattle.policy.specs.Edit.{Kind, insert, delete, replace, Edit, placeFound, 
 use Rattle.policy.specs.declared.Answer.{Answer}
 use Rattle.wire.specs.Records.{ruleIn}
 use Rattle.sheet.specs.Pairs.{pairIn, pairBytes, pairSize}
-use Rattle.planner.specs.Calls.{roomFor, Call}
+use Rattle.planner.specs.Calls.{Call}
+use Rattle.wire.specs.Buffers.{roomFor}
 use Rattle.planner.specs.declared.Change.{Change}
 use Rattle.planner.specs.declared.Change.the-variants.{Insert, Delete, Replace}
 
@@ -51,11 +52,8 @@ unfoldable pub editedOf : Limits → List ℕ → Asked → Outcome Pair
 editedOf lim s a = andThen (pairIn lim s) (changeOf lim a)
 
 -- Number 1: the sheet's buffer and the work buffer are long enough, and the stated length is not above the former.
-abbrev pub lentFor : Limits → List ℕ → ℕ → List ℕ → Bool
-lentFor lim buffer used w = roomFor (pairSize lim) buffer && (leb used (length buffer) && roomFor (workSize lim) w)
-
 abbrev pub editLent : List ℕ → ℕ → List ℕ → Bool
-editLent buffer used w = lentFor limits buffer used w
+editLent buffer used w = roomFor (pairSize limits) buffer && (leb used (length buffer) && roomFor (workSize limits) w)
 
 abbrev pub Edits : List ℕ → ℕ → Asked → List ℕ → Answer → List ℕ → List ℕ → Type 0
 Edits buffer used a w r buffer′ w′ = Call pairBytes (pairSize limits) (editLent buffer used w) (editedOf limits (take used buffer) a) buffer w r buffer′ w′

@@ -1,4 +1,5 @@
--- What whoever uses the calls may count on: demands 2 and 3, over the calls' own statements (`Moves`, `Checks`, `Edits`). Each
+-- What whoever uses the calls may count on: demands 2 and 3, over the calls' own statements (`Moves`, `Checks`, `Edits`;
+-- `Lists` has the bytes of the two lists). Each
 -- theorem is a type here, with all that it asks for, and has one value in proofs/Theorems.antt; `PlannerTheorem` is all of them.
 -- Assumes nothing.
 use mathlib.Core.Path.{_≡_}
@@ -18,11 +19,10 @@ use Rattle.policy.specs.Demands.{DenyOnly, OthersKept}
 use Rattle.policy.specs.declared.Answer.{Answer}
 use Rattle.policy.specs.declared.Answer.the-variants.{Length, Refused}
 use Rattle.wire.specs.Numbers.{Byte}
-use Rattle.wire.specs.Lists.{listBytes}
-use Rattle.wire.specs.Buffers.{filled}
+use Rattle.wire.specs.Buffers.{filled, roomFor}
 use Rattle.sheet.specs.Orders.{orderIn, orderBytes, listIn}
 use Rattle.sheet.specs.Pairs.{pairIn, pairBytes, pairSize}
-use Rattle.planner.specs.Calls.{roomFor, bothLent, moveOf, Moves, checkOf, Checks}
+use Rattle.planner.specs.Calls.{bothLent, moveOf, Moves, checkOf, Checks, gateBytes, cellBytes}
 use Rattle.planner.specs.Edits.{Asked, kindOf, editOf, wholeRecord, editLent, Edits}
 
 -- A sheet in its buffer, and the length that was last answered of it; and what an accepted call leaves in the buffer `out`.
@@ -34,16 +34,17 @@ abbrev pub held : Limits → List ℕ → Pair → Held
 held lim out p = record { buffer = filled (pairSize lim) out (pairBytes p); used = length (pairBytes p) }
 
 -- Demand 2, of the bytes s and the pair p that a move makes of them. The lists o are those that the bytes say, and say the same
--- bytes; the pair's sheet reads as itself and passes check; so do its two lists, which forward a packet exactly if the lists o
--- did; the boxes have exactly what the gate dropped; and the old gate before the new cell list forwards what it did before.
+-- bytes; the pair's sheet reads as itself and passes check; the bytes that the two list calls write of it read as its two lists,
+-- and these forward a packet exactly if the lists o did; the boxes have exactly what the gate dropped; and the old gate before the
+-- new cell list forwards what it did before.
 pub record DemandTwo (lim : Limits) (s : List ℕ) (o : Order) (p : Pair) : Type 0 where
   pub order : orderIn lim s ≡ accepted o
   pub bytes : orderBytes o ≡ s
   pub pair : p ≡ moved o
   pub sheet : pairIn lim (pairBytes p) ≡ accepted p
   pub checks : checkOf lim (pairBytes p) ≡ accepted p
-  pub gate : listIn (lim .total) (listBytes (gateList p)) ≡ accepted (gateList p)
-  pub cell : listIn (lim .total) (listBytes (cellList p)) ≡ accepted (cellList p)
+  pub gate : listIn (lim .total) (gateBytes p) ≡ accepted (gateList p)
+  pub cell : listIn (lim .total) (cellBytes p) ≡ accepted (cellList p)
   pub forwarded : (q : Packet) → forwards q (gateList p) (cellList p) ≡ forwards q (o .gate) (o .own)
   pub boxes : (q : Packet) → anyHas q (together (p .groups)) ≡ drops q (o .gate)
   pub cell-first : (q : Packet) → forwards q (o .gate) (cellList p) ≡ forwards q (o .gate) (o .own)

@@ -9,7 +9,8 @@ use Rattle.policy.specs.Fields.{Limits}
 use Rattle.policy.specs.Ranges.{Range, Region}
 use Rattle.policy.specs.Refusals.{given}
 use Rattle.policy.specs.Check.{sameList, sameRange, sameGroups, checkRefusal}
-use Rattle.policy.specs.Move.{slotsOf, Order, Pair, moved, work, room, moveRefusal}
+use Rattle.policy.specs.Move.{slotsOf, Order, Pair, moved, work, room}
+use Rattle.policy.proofs.Refused.{moveRefusal}
 use Rattle.policy.proofs.Numbers.{orElse-zero, orElse-both, given-zero}
 use Rattle.policy.proofs.Edits.{move-accepted}
 

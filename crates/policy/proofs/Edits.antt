@@ -13,7 +13,8 @@ use Rattle.policy.specs.Fields.{Limits}
 use Rattle.policy.specs.Ranges.{Region}
 use Rattle.policy.specs.Rules.{Rule, isAllow, sound, complete, denies, allowsIn, anyAllow}
 use Rattle.policy.specs.Refusals.{given, orElse, faults}
-use Rattle.policy.specs.Move.{Slot, kept, anew, startOf, slots, slotsOf, boxesOf, overSlot, anyOver, together, work, room, groupsOf, Order, moved, badCount, listRefusal, moveRefusal}
+use Rattle.policy.specs.Move.{Slot, kept, anew, startOf, slots, slotsOf, boxesOf, overSlot, anyOver, together, work, room, Order, moved, badCount}
+use Rattle.policy.proofs.Refused.{listRefusal, moveRefusal}
 use Rattle.policy.specs.Edit.{Kind, out, put, front, gone, back, changed, around, gateSlots, Edit, newOrder, newSlots, edited, changeRefusal}
 use Rattle.policy.proofs.Numbers.{orElse-zero, orElse-skip, orElse-none, orElse-assoc, given-zero}
 
@@ -95,18 +96,18 @@ allowsIn-append (r ∷ x) y = go (isAllow r) (allowsIn-append x y)
 slots-three : (f : Region → List Region) (x m y : List Rule) → slots f [] (x ++ (m ++ y)) ≡ slots f [] x ++ (slots f (allowsIn x) m ++ slots f (allowsIn x ++ allowsIn m) y)
 slots-three f x m y = slots-append f [] x (m ++ y) ∙ ap (λ (l : List Slot). slots f [] x ++ l) (slots-append f (allowsIn x) m y)
 
-groups-three : (f : Region → List Region) (x m y : List Rule) → groupsOf f (x ++ (m ++ y)) ≡ boxes f [] x ++ (boxes f (allowsIn x) m ++ boxes f (allowsIn x ++ allowsIn m) y)
+groups-three : (f : Region → List Region) (x m y : List Rule) → boxes f [] (x ++ (m ++ y)) ≡ boxes f [] x ++ (boxes f (allowsIn x) m ++ boxes f (allowsIn x ++ allowsIn m) y)
 groups-three f x m y =
     ap (λ (l : List Slot). map boxesOf l) (slots-three f x m y)
     ∙ map-append boxesOf (slots f [] x) (slots f (allowsIn x) m ++ slots f (allowsIn x ++ allowsIn m) y)
     ∙ ap (λ (l : List (List Region)). boxes f [] x ++ l) (map-append boxesOf (slots f (allowsIn x) m) (slots f (allowsIn x ++ allowsIn m) y))
 
 -- the groups in front of the place, and those behind it
-groups-before : (f : Region → List Region) (x m y : List Rule) → take (denies x) (groupsOf f (x ++ (m ++ y))) ≡ boxes f [] x
+groups-before : (f : Region → List Region) (x m y : List Rule) → take (denies x) (boxes f [] (x ++ (m ++ y))) ≡ boxes f [] x
 groups-before f x m y =
     rw (groups-three f x m y) (take-at (boxes f [] x) (boxes f (allowsIn x) m ++ boxes f (allowsIn x ++ allowsIn m) y) (denies x) (boxes-length f [] x))
 
-groups-after : (f : Region → List Region) (x m y : List Rule) → drop (denies x + denies m) (groupsOf f (x ++ (m ++ y))) ≡ boxes f (allowsIn x ++ allowsIn m) y
+groups-after : (f : Region → List Region) (x m y : List Rule) → drop (denies x + denies m) (boxes f [] (x ++ (m ++ y))) ≡ boxes f (allowsIn x ++ allowsIn m) y
 groups-after f x m y =
     rw (groups-three f x m y, ← append-assoc (boxes f [] x) (boxes f (allowsIn x) m) (boxes f (allowsIn x ++ allowsIn m) y))
     (drop-at (boxes f [] x ++ boxes f (allowsIn x) m) (boxes f (allowsIn x ++ allowsIn m) y) (denies x + denies m)
@@ -119,7 +120,7 @@ same-before x m n h =
     rw (no-allow m (f .0), no-allow n (f .1))
 
 -- the slots around a change hold the groups of the changed list
-pub around-boxes : (f : Region → List Region) (x m n y : List Rule) → map boxesOf (around f x m n y (groupsOf f (x ++ (m ++ y)))) ≡ groupsOf f (x ++ (n ++ y))
+pub around-boxes : (f : Region → List Region) (x m n y : List Rule) → map boxesOf (around f x m n y (boxes f [] (x ++ (m ++ y)))) ≡ boxes f [] (x ++ (n ++ y))
 unfolding around
 around-boxes f x m n y =
     rw (groups-before f x m y, groups-after f x m y, groups-three f x n y, map-append boxesOf (map kept (boxes f [] x)) _, kept-boxes (boxes f [] x), map-append boxesOf (slots f (allowsIn x) n) _)
@@ -181,7 +182,7 @@ result true i k o =
     let e = three-parts i (out k) (o .gate) in
     λ t. record { order = newOrder (edit true i k) o; groups = (rw e at gs) t }
 result false i k o =
-    λ t. record { order = newOrder (edit false i k) o; groups = kept-boxes (groupsOf (startOf o) (o .gate)) t }
+    λ t. record { order = newOrder (edit false i k) o; groups = kept-boxes (boxes (startOf o) [] (o .gate)) t }
 
 pub edit-as-fresh : (e : Edit) (o : Order) → edited e (moved o) ≡ moved (newOrder e o)
 edit-as-fresh e o = result (e .inGate) (e .place) (e .kind) o
@@ -222,8 +223,8 @@ module _ (lim : Limits) where
       let new : Order = newOrder (edit true i k) o in
       let light : anyOver (lim .pieces) (slots (startOf o) [] (x ++ (m ++ y))) ≡ false = rw e (room-light o (slotsOf o) (acc .room)) in
       let clean : faults (x ++ (m ++ y)) ≡ 0 = rw e (list-accepted (lim .gate) (o .gate) (acc .gate) .0) in
-      let ov = around-over (startOf o) (lim .pieces) x m (put k) y (groupsOf (startOf o) (o .gate)) light in
-      let bx : map boxesOf (gateSlots (edit true i k) (moved o)) ≡ groupsOf (startOf o) (changed i k (o .gate)) = rw e at (around-boxes (startOf o) x m (put k) y) in
+      let ov = around-over (startOf o) (lim .pieces) x m (put k) y (boxes (startOf o) [] (o .gate)) light in
+      let bx : map boxesOf (gateSlots (edit true i k) (moved o)) ≡ boxes (startOf o) [] (changed i k (o .gate)) = rw e at (around-boxes (startOf o) x m (put k) y) in
       rw (room-same new (newSlots (edit true i k) (moved o)) (slotsOf new) ov bx, changed-faults x m (put k) y clean)
       (chain-gate (given (badCount (lim .gate) (length (changed i k (o .gate)))) 2) (faults (put k)) (given (not (complete (changed i k (o .gate)))) 5)
       (listRefusal (lim .own) (o .own)) (room lim new (slotsOf new)) (acc .own))
@@ -231,7 +232,7 @@ module _ (lim : Limits) where
       let e = three-parts i (out k) (o .own) in
       let new : Order = newOrder (edit false i k) o in
       let clean : faults (front i (o .own) ++ (gone i k (o .own) ++ back i k (o .own))) ≡ 0 = rw e (list-accepted (lim .own) (o .own) (acc .own) .0) in
-      let gs : List (List Region) = groupsOf (startOf o) (o .gate) in
+      let gs : List (List Region) = boxes (startOf o) [] (o .gate) in
       rw (
         room-same new (map kept gs) (slotsOf new) (kept-over (lim .pieces) gs ∙ sym (room-light o (slotsOf o) (acc .room))) (kept-boxes gs),
         changed-faults (front i (o .own)) (gone i k (o .own)) (put k) (back i k (o .own)) clean,

@@ -1,3 +1,4 @@
+pub mod Refused
 pub mod Example
 pub mod Numbers
 pub mod Values

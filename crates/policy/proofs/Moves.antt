@@ -79,12 +79,12 @@ full-eq (x ∷ hs) (r ∷ b) h =
     λ t. record { low = e t; high = j t } ∷ i t
 
 -- No sound rule has a packet that is outside the limits.
-pub above-meets-none : (p : Packet) (l : List Rule) (n : ℕ) → faults l ≡ 0 → inLimits p ≡ false → firstFrom n p l ≡ nothing
+pub above-from : (p : Packet) (l : List Rule) (n : ℕ) → faults l ≡ 0 → inLimits p ≡ false → firstFrom n p l ≡ nothing
 unfolding faults firstFrom
-above-meets-none p [] n h k = refl
-above-meets-none p (r ∷ l) n h k =
+above-from p [] n h k = refl
+above-from p (r ∷ l) n h k =
     let f = faults-cons r l h in
-    go (inside p (r .region)) refl (above-meets-none p l (suc n) (f .1) k) (rule-proper r (f .0))
+    go (inside p (r .region)) refl (above-from p l (suc n) (f .1) k) (rule-proper r (f .0))
   where
     go : (t : Bool) → inside p (r .region) ≡ t → firstFrom (suc n) p l ≡ nothing → proper highest (r .region) ≡ true
         → cond t (found n (r .action)) (firstFrom (suc n) p l) ≡ nothing

@@ -1,5 +1,5 @@
--- What is claimed of a cut and of a group, each theorem as a type that has one value in proofs/Demands.antt; and what it is for
--- an edit to leave other rules' groups alone. Assumes nothing.
+-- What is claimed of first match, of a cut and of a group, each theorem as a type that has one value in proofs/Demands.antt; and
+-- what it is for an edit to leave other rules' groups alone. Assumes nothing.
 use mathlib.Core.Path.{_≡_}
 use mathlib.Core.List.{List, [], _∷_}
 use mathlib.Core.Bool.{true, false, not, _&&_, _||_}
@@ -7,10 +7,15 @@ use Prim.Native.Nat.{ℕ, _+_, _*_, _≤_, _<_}
 use lib.ListN.{length, getD, take}
 use Rattle.lists.specs.Lists.{Each}
 use Rattle.policy.specs.Ranges.{Region, Packet, inside, Whole, Within}
-use Rattle.policy.specs.Rules.{Rule, rule, isAllow, denies, anyAllow}
+use Rattle.policy.specs.Rules.{Rule, rule, isAllow, nothing, first, inLimits, denies, anyAllow}
 use Rattle.policy.specs.Cut.{cut, group, anyHas}
+use Rattle.policy.specs.Refusals.{faults}
 use Rattle.policy.specs.Move.{Pair}
 use Rattle.policy.specs.Edit.{Kind, out, put, gone}
+
+-- 01, The five fields: in a list without a bad rule, a packet that has a value above its field's highest meets no rule.
+abbrev pub AboveTheorem : Type 0
+AboveTheorem = (p : Packet) (l : List Rule) → faults l ≡ 0 → inLimits p ≡ false → first p l ≡ nothing
 
 -- A piece of d is never empty and lies in d.
 abbrev pub Piece : Region → Region → Type 0

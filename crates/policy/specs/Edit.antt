@@ -9,7 +9,7 @@ use Rattle.policy.specs.Fields.{Limits}
 use Rattle.policy.specs.Ranges.{Region}
 use Rattle.policy.specs.Rules.{Rule, complete, denies, allowsIn, anyAllow}
 use Rattle.policy.specs.Refusals.{given, orElse, faults}
-use Rattle.policy.specs.Move.{startOf, Slot, kept, slots, boxesOf, room, Order, Pair, badCount}
+use Rattle.policy.specs.Move.{startOf, Slot, kept, slots, groupsOf, room, Order, Pair, badCount}
 
 pub data Kind : Type 0 where
   insert : Rule → Kind
@@ -83,7 +83,7 @@ abbrev pub newSlots : Edit → Pair → List Slot
 newSlots e s = cond (e .inGate) (gateSlots e s) (map kept (s .groups))
 
 abbrev pub edited : Edit → Pair → Pair
-edited e s = record { order = newOrder e (s .order); groups = map boxesOf (newSlots e s) }
+edited e s = record { order = newOrder e (s .order); groups = groupsOf (newSlots e s) }
 
 abbrev pub placeFound : Edit → Order → Bool
 placeFound e o = hasPlace (e .place) (e .kind) (target e o)

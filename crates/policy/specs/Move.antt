@@ -1,15 +1,15 @@
 -- The groups of a gate list, the moved pair, and when a move is refused (01, Cutting one box from another and Numbers given
 -- back). Assumes nothing.
 use mathlib.Core.List.{List, [], _∷_, _++_, map}
-use mathlib.Core.Bool.{Bool, false, cond, not, _||_}
+use mathlib.Core.Bool.{Bool, false, cond, _||_}
 use Prim.Native.Nat.{ℕ, _+_}
 use lib.Dec.{ltb}
 use lib.ListN.{length}
 use Rattle.policy.specs.Fields.{Limits}
 use Rattle.policy.specs.Ranges.{Region}
 use Rattle.policy.specs.Cut.{cutEach, group}
-use Rattle.policy.specs.Rules.{Rule, rule, isAllow, full, complete}
-use Rattle.policy.specs.Refusals.{given, orElse, faults}
+use Rattle.policy.specs.Rules.{Rule, rule, isAllow, full}
+use Rattle.policy.specs.Refusals.{given, orElse}
 
 -- What an order sheet holds, and what a pair sheet holds.
 pub record Order : Type 0 where
@@ -32,8 +32,11 @@ slots start allows (r ∷ l) =
     cond (isAllow r) (slots start (allows ++ (r .region ∷ [])) l) (anew (start (r .region)) allows ∷ slots start allows l)
 
 -- A group starts with the deny rule's box alone.
+abbrev pub alone : Region → List Region
+alone d = d ∷ []
+
 abbrev pub startOf : Order → Region → List Region
-startOf o d = d ∷ []
+startOf o = alone
 
 abbrev pub slotsOf : Order → List Slot
 slotsOf o = slots (startOf o) [] (o .gate)
@@ -43,8 +46,8 @@ unfoldable pub boxesOf : Slot → List Region
 boxesOf (kept g) = g
 boxesOf (anew ds allows) = group ds allows
 
-abbrev pub groupsOf : (Region → List Region) → List Rule → List (List Region)
-groupsOf start gate = map boxesOf (slots start [] gate)
+abbrev pub groupsOf : List Slot → List (List Region)
+groupsOf l = map boxesOf l
 
 -- The boxes of all groups, in gate order.
 unfoldable pub together : List (List Region) → List Region
@@ -70,11 +73,11 @@ work lim l = given (anyOver (lim .pieces) l) 6
 
 -- 6, then number 7: all boxes and the own rules together exceed the limit.
 unfoldable pub room : Limits → Order → List Slot → ℕ
-room lim o l = orElse (work lim l) (given (ltb (lim .total) (length (together (map boxesOf l)) + length (o .own))) 7)
+room lim o l = orElse (work lim l) (given (ltb (lim .total) (length (together (groupsOf l)) + length (o .own))) 7)
 
 -- The moved pair keeps the two lists and holds every group.
 abbrev pub moved : Order → Pair
-moved o = record { order = o; groups = groupsOf (startOf o) (o .gate) }
+moved o = record { order = o; groups = groupsOf (slotsOf o) }
 
 -- The boxes as deny rules.
 unfoldable pub denials : List Region → List Rule
@@ -88,14 +91,6 @@ gateList s = rule full 1 ∷ []
 abbrev pub cellList : Pair → List Rule
 cellList s = denials (together (s .groups)) ++ s .order .own
 
--- What reading gives of one list: 2 for its count, 4 for a rule, 5 unless it is complete.
+-- Number 2: a list has no rule, or more than the most.
 abbrev pub badCount : ℕ → ℕ → Bool
 badCount most n = ltb n 1 || ltb most n
-
-unfoldable pub listRefusal : ℕ → List Rule → ℕ
-listRefusal most l = orElse (given (badCount most (length l)) 2) (orElse (faults l) (given (not (complete l)) 5))
-
--- A move of two lists: what reading gives of A, then of B, then 6 and 7. With 0 it is accepted and gives `moved`.
-unfoldable pub moveRefusal : Limits → Order → ℕ
-moveRefusal lim o =
-    orElse (listRefusal (lim .gate) (o .gate)) (orElse (listRefusal (lim .own) (o .own)) (room lim o (slotsOf o)))

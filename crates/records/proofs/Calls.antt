@@ -25,7 +25,7 @@ use Rattle.policy.proofs.Answers.{said-once}
 use Rattle.wire.specs.Numbers.{Byte}
 use Rattle.wire.specs.Records.{recordBytes, ruleIn}
 use Rattle.records.specs.Calls.{numbersSize, lowOf, highOf, ruleNumbers, numbersRule, readingOf, writingOf, RecordRead, RecordWritten}
-use Rattle.wire.specs.Buffers.{answered, written}
+use Rattle.wire.specs.Buffers.{roomFor, answered, written}
 use Rattle.wire.proofs.Buffers.{filled-front, refusal-leaves}
 use Rattle.wire.proofs.Records.{fits-length, sound-fits, recordBytes-length, rule-back, record-written-back}
 
@@ -70,21 +70,21 @@ module _ (s ns : List ℕ) where
   read-refused f e = record { answer = ap (answered 0) (sym e); numbers = refusal-leaves ruleNumbers numbersSize ns e }
 
   pub no-room : length ns < numbersSize → RecordRead s ns (Refused BufferShort) ns
-  unfolding readingOf
+  unfolding readingOf roomFor
   no-room h = read-refused BufferShort (rw (lt-leb numbersSize (length ns) h) refl)
 
   module _ (room : numbersSize ≤ length ns) where
     pub not-a-record : (length s ≡ recordSize → ⊥) → RecordRead s ns (Refused LengthWrong) ns
-    unfolding readingOf
+    unfolding readingOf roomFor
     not-a-record h = read-refused LengthWrong (rw (le-leb numbersSize (length ns) room, ne-eqb (length s) recordSize h) refl)
 
     module _ (long : length s ≡ recordSize) (r : Rule) (is : r ≡ ruleIn s) (t : Bool) (e : t ≡ sound r) where
       pub bad-record : not t ≡ true → RecordRead s ns (Refused RuleBad) ns
-      unfolding readingOf
+      unfolding readingOf roomFor
       bad-record h = read-refused RuleBad (rw (le-leb numbersSize (length ns) room, eq-eqb (length s) recordSize long, ← is, ← e, not-true t h) refl)
 
       pub record-read : not t ≡ false → (ns′ : List ℕ) → ns′ ≡ sets ns 0 (ruleNumbers r) → RecordRead s ns (Length 0) ns′
-      unfolding readingOf answered written
+      unfolding readingOf answered written roomFor
       record-read h ns′ u =
           let g : sound r ≡ true = sym e ∙ not-false t h in
           let k : readingOf s ns ≡ accepted r = rw (le-leb numbersSize (length ns) room, eq-eqb (length s) recordSize long, ← is, g) refl in
@@ -100,21 +100,21 @@ module _ (ns out : List ℕ) where
   write-refused f e = record { answer = ap (answered recordSize) (sym e); bytes = refusal-leaves recordBytes recordSize out e }
 
   pub few-numbers : length ns < numbersSize → RecordWritten ns out (Refused BufferShort) out
-  unfolding writingOf
+  unfolding writingOf roomFor
   few-numbers h = write-refused BufferShort (rw (lt-leb numbersSize (length ns) h) refl)
 
   module _ (all : numbersSize ≤ length ns) where
     pub few-bytes : length out < recordSize → RecordWritten ns out (Refused BufferShort) out
-    unfolding writingOf
+    unfolding writingOf roomFor
     few-bytes h = write-refused BufferShort (rw (le-leb numbersSize (length ns) all, lt-leb recordSize (length out) h) refl)
 
     module _ (room : recordSize ≤ length out) (r : Rule) (is : r ≡ numbersRule ns) (t : Bool) (e : t ≡ sound r) where
       pub bad-numbers : not t ≡ true → RecordWritten ns out (Refused RuleBad) out
-      unfolding writingOf
+      unfolding writingOf roomFor
       bad-numbers h = write-refused RuleBad (rw (le-leb numbersSize (length ns) all, le-leb recordSize (length out) room, ← is, ← e, not-true t h) refl)
 
       pub record-written : not t ≡ false → (out′ : List ℕ) → out′ ≡ sets out 0 (recordBytes r) → RecordWritten ns out (Length recordSize) out′
-      unfolding writingOf answered written
+      unfolding writingOf answered written roomFor
       record-written h out′ u =
           let g : sound r ≡ true = sym e ∙ not-false t h in
           let k : writingOf ns out ≡ accepted r = rw (le-leb numbersSize (length ns) all, le-leb recordSize (length out) room, ← is, g) refl in
@@ -179,7 +179,7 @@ through false k x m e = let z : _≡_ {A = ℕ} 0 1 = cc in absurd (omega arith)
 
 module _ (s ns : List ℕ) {n : ℕ} {ns′ : List ℕ} (x : RecordRead s ns (Length n) ns′) where
   read-passed : (numbersSize ≤ length ns) × (length s ≡ recordSize) × (sound (ruleIn s) ≡ true) × (ns′ ≡ sets ns 0 (ruleNumbers (ruleIn s)))
-  unfolding readingOf
+  unfolding readingOf roomFor
   read-passed =
       let v : Rule = ruleIn s in
       let a = through (leb numbersSize (length ns)) 1 (test (eqb (length s) recordSize) 3 (test (sound v) 4 (accepted v))) 0 (x .answer) in
@@ -191,7 +191,7 @@ module _ (s ns : List ℕ) {n : ℕ} {ns′ : List ℕ} (x : RecordRead s ns (Le
 
 module _ (ns out : List ℕ) {n : ℕ} {out′ : List ℕ} (x : RecordWritten ns out (Length n) out′) where
   written-passed : (numbersSize ≤ length ns) × (recordSize ≤ length out) × (sound (numbersRule ns) ≡ true) × (out′ ≡ sets out 0 (recordBytes (numbersRule ns)))
-  unfolding writingOf
+  unfolding writingOf roomFor
   written-passed =
       let v : Rule = numbersRule ns in
       let a = through (leb numbersSize (length ns)) 1 (test (leb recordSize (length out)) 1 (test (sound v) 4 (accepted v))) recordSize (x .answer) in

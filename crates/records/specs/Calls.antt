@@ -2,7 +2,7 @@
 use mathlib.Core.Path.{_≡_}
 use mathlib.Core.List.{List, [], _∷_, _++_, map}
 use Prim.Native.Nat.{ℕ, _+_}
-use lib.Dec.{leb, eqb}
+use lib.Dec.{eqb}
 use lib.ListN.{length, take, drop, getD}
 use Rattle.policy.specs.Fields.{fields, recordSize}
 use Rattle.policy.specs.Ranges.{Range}
@@ -10,7 +10,7 @@ use Rattle.policy.specs.Rules.{Rule, rule, sound}
 use Rattle.policy.specs.Refusals.{Outcome, accepted, test, said}
 use Rattle.policy.specs.Values.{ranges}
 use Rattle.policy.specs.declared.Answer.{Answer}
-use Rattle.wire.specs.Buffers.{written, answered}
+use Rattle.wire.specs.Buffers.{roomFor, written, answered}
 use Rattle.wire.specs.Records.{recordBytes, ruleIn}
 
 -- A rule given as numbers: the lows, the highs, the action.
@@ -31,13 +31,13 @@ numbersRule ns = rule (ranges (take fields ns) (take fields (drop fields ns))) (
 
 -- Bytes to numbers: room for the numbers (1), exactly a record's bytes (3), a rule that may stand (4).
 unfoldable pub readingOf : List ℕ → List ℕ → Outcome Rule
-readingOf s ns = test (leb numbersSize (length ns)) 1 (test (eqb (length s) recordSize) 3 (test (sound (ruleIn s)) 4 (accepted (ruleIn s))))
+readingOf s ns = test (roomFor numbersSize ns) 1 (test (eqb (length s) recordSize) 3 (test (sound (ruleIn s)) 4 (accepted (ruleIn s))))
 
 -- Numbers to bytes: all the numbers and room for the record (1), a rule that may stand (4).
 unfoldable pub writingOf : List ℕ → List ℕ → Outcome Rule
 writingOf ns out =
-    test (leb numbersSize (length ns)) 1
-    (test (leb recordSize (length out)) 1
+    test (roomFor numbersSize ns) 1
+    (test (roomFor recordSize out) 1
     (test (sound (numbersRule ns)) 4 (accepted (numbersRule ns))))
 
 pub record RecordRead (s ns : List ℕ) (r : Answer) (ns′ : List ℕ) : Type 0 where

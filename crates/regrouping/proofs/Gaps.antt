@@ -8,23 +8,23 @@ use lib.Seq.{drop-drop, length-take-le}
 use Rattle.lists.specs.Lists.{Each}
 use Rattle.policy.specs.Fields.{countSize, limits}
 use Rattle.policy.specs.Ranges.{Region}
-use Rattle.policy.specs.Move.{Slot, boxesOf, together}
+use Rattle.policy.specs.Move.{Slot, boxesOf, together, groupsOf}
 use Rattle.policy.proofs.Edits.{kept-boxes, kept-over, over-append, together-append}
 use Rattle.lists.proofs.Lists.{map-append}
 use Rattle.wire.specs.Numbers.{Byte}
-use Rattle.sheet.specs.Pairs.{groupsBytes}
+use Rattle.sheet.specs.Pairs.{groupsBytes, groupBytes}
 use Rattle.sheet.specs.Steps.{groupsFrom, boxCount}
-use Rattle.draft.specs.Steps.{stretch, slotGroups, runSize, GroupsHeld, keptSlots, slotsBehind, Told, Begins, Behind, partOf, orderOf, groupsAt}
+use Rattle.draft.specs.Steps.{stretch, runSize, GroupsHeld, keptSlots, slotsBehind, Told, Begins, Behind, partOf, orderOf, groupsAt}
 use Rattle.draft.specs.declared.Drafted.{Drafted}
 use Rattle.draft.specs.declared.Drafted.the-variants.{Groups, TooManyPieces}
 use Rattle.draft.specs.declared.Around.{Around}
 use Rattle.draft.specs.declared.kept.Gap.{Gap}
 use Rattle.draft.specs.declared.kept.Standing.{Standing}
-use Rattle.draft.proofs.Drafts.{groupsBytes-append}
 use Rattle.draft.proofs.Runs.{boxes-split, held-front, held-behind}
 use Rattle.planner.specs.Steps.{Finishing}
 use Rattle.planner.proofs.Finished.{part-is, rules-good}
 use Rattle.regrouping.specs.Steps.{Gathering, Gathered, Settling}
+use Rattle.wire.proofs.Items.{bytes-append}
 
 module _ {sheet list w : List ℕ} {t : Standing} {gate own boxes : ℕ} {v : Around} (ready : Settling sheet t list gate own v boxes w) where
   abbrev from : ℕ
@@ -100,18 +100,18 @@ module _ {sheet list w : List ℕ} {t : Standing} {gate own boxes : ℕ} {v : Ar
         abbrev later : List (List Region)
         later = drop (v .later) (groupsFrom (v .groups) groups)
 
-        joined-behind : (r : Drafted) (s : List ℕ) → Told limits anew (boxes - gap .boxes) (Begins s (groupsBytes (slotGroups anew) ++ back)) r → Behind (slotsBehind v groups (drop countSize list)) (boxCount (v .earlier) groups) r s
+        joined-behind : (r : Drafted) (s : List ℕ) → Told limits anew (boxes - gap .boxes) (Begins s (groupsBytes (groupsOf anew) ++ back)) r → Behind (slotsBehind v groups (drop countSize list)) (boxCount (v .earlier) groups) r s
         unfolding Told
         joined-behind TooManyPieces s y = record { told = over-append (limits .pieces) anew (keptSlots (v .later) (v .groups) groups) ∙ rw y }
         joined-behind (Groups b n) s y =
-            let f : slotGroups (slotsBehind v groups (drop countSize list)) ≡ slotGroups anew ++ later = map-append boxesOf anew _ ∙ ap (λ (x : List (List Region)). slotGroups anew ++ x) (kept-boxes later) in
-            let l : length (together (slotGroups anew ++ later)) ≡ length (together (slotGroups anew)) + length (together later) = rw (together-append (slotGroups anew) later) (length-append (together (slotGroups anew)) (together later)) in
+            let f : groupsOf (slotsBehind v groups (drop countSize list)) ≡ groupsOf anew ++ later = map-append boxesOf anew _ ∙ ap (λ (x : List (List Region)). groupsOf anew ++ x) (kept-boxes later) in
+            let l : length (together (groupsOf anew ++ later)) ≡ length (together (groupsOf anew)) + length (together later) = rw (together-append (groupsOf anew) later) (length-append (together (groupsOf anew)) (together later)) in
             let e = y .1 in
             record {
               told = (
                 over-append (limits .pieces) anew (keptSlots (v .later) (v .groups) groups) ∙ rw (y .0, kept-over (limits .pieces) later),
                 rw f (omega (arith, lost-is, behind-boxes, ready .all)),
-                λ i. let u = y .2 i in (u .0, u .1 ∙ rw (f, groupsBytes-append (slotGroups anew) later, back-are, back-is)),
+                λ i. let u = y .2 i in (u .0, u .1 ∙ rw (f, bytes-append groupBytes (groupsOf anew) later, back-are, back-is)),
               );
             }
 

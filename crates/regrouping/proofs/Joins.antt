@@ -13,12 +13,12 @@ use Rattle.policy.specs.Rules.{isAllow}
 use Rattle.policy.specs.Cut.{group}
 use Rattle.policy.specs.Move.{Slot, anew, boxesOf, together, overSlot, anyOver}
 use Rattle.wire.specs.Numbers.{numberBytes}
-use Rattle.wire.specs.Records.{ruleIn, boxesBytes}
+use Rattle.wire.specs.Records.{ruleIn, boxesBytes, eachBytes}
 use Rattle.wire.specs.Steps.{copiedUp}
 use Rattle.wire.proofs.Numbers.{numberBytes-length}
 use Rattle.groups.specs.Steps.{startAt, allowsAt, GroupStands, WorkedOut}
 use Rattle.groups.specs.declared.Worked.the-variants.{Boxes, TooMany}
-use Rattle.sheet.specs.Pairs.{groupBytes, groupsBytes}
+use Rattle.sheet.specs.Pairs.{groupBytes}
 use Rattle.draft.specs.Steps.{stretch, Told}
 use Rattle.draft.specs.declared.Drafted.the-variants.{Groups, TooManyPieces}
 use Rattle.draft.proofs.Drafts.{stretch-none, stretch-allow, stretch-deny}
@@ -81,7 +81,7 @@ module _ {rules : List ℕ} {place to boxes : ℕ} {back w : List ℕ} (ready : 
 
   -- no group: the kept ones alone
   pub gathered-kept : {end : ℕ} {w′ : List ℕ} → NoneDenies rules place to true → (end ≡ 0 + length back) × (w′ ≡ sets w 0 back) → Gathered rules place to boxes back w (Groups boxes end) w′
-  unfolding NoneDenies Told anyOver together groupsBytes
+  unfolding NoneDenies Told anyOver together eachBytes
   gathered-kept {end} d e =
       let z : 0 + length back ≡ length back = omega arith in
       let p = e .1 ∙ sets-parts w 0 back (omega (arith, back-fits, ready .workRoom)) in
@@ -122,7 +122,7 @@ module _ {rules : List ℕ} {place to boxes : ℕ} {back w : List ℕ} (ready : 
       join-ready h l = record { few = omega (arith, worked-few x); fits = omega (arith, ready .size); room = omega (arith, ready .workRoom) }
 
       pub gathered-join : {end : ℕ} {w′ : List ℕ} → boxes + n ≤ limits .total → length w′ ≡ length w → JoinedIn w₁ n back end w′ → Gathered rules place to boxes back w (Groups (boxes + n) end) w′
-      unfolding Told anyOver overSlot boxesOf together GroupStands groupBytes groupsBytes
+      unfolding Told anyOver overSlot boxesOf together GroupStands groupBytes eachBytes
       gathered-join {end} h l j =
           let z = worked-boxes x in
           let c : numberBytes countSize n ++ take (boxSize * n) w₁ ≡ numberBytes countSize (length g) ++ boxesBytes g = ap (λ (t : List ℕ). numberBytes countSize n ++ t) (x .boxes) ∙ ap (λ (k : ℕ). numberBytes countSize k ++ boxesBytes g) (z .1) in

@@ -10,7 +10,8 @@ use Rattle.policy.specs.Rules.{isAllow, sound}
 use Rattle.wire.specs.Numbers.{numberBytes}
 use Rattle.wire.specs.Records.{ruleIn, rulesIn}
 use Rattle.sheet.specs.Pairs.{groupSize, groupsBytes}
-use Rattle.draft.specs.Steps.{stretch, slotGroups, Told, Begins, runSize, groupsAt}
+use Rattle.draft.specs.Steps.{stretch, Told, Begins, runSize, groupsAt}
+use Rattle.policy.specs.Move.{groupsOf}
 use Rattle.sheet.specs.Steps.{boxCount}
 use Rattle.draft.specs.declared.Drafted.{Drafted}
 use Rattle.draft.specs.declared.Drafted.the-variants.{Groups, TooManyPieces}
@@ -53,7 +54,7 @@ FewBoxes TooManyPieces = Unit {0}
 
 -- What it answers and leaves: while the boxes are within the total, the bytes of the group, and behind them those of the kept ones.
 pub record Gathered (rules : List ℕ) (place to boxes : ℕ) (back work : List ℕ) (r : Drafted) (work′ : List ℕ) : Type 0 where
-  pub joined : Told limits (stretch place to rules) boxes (Begins work′ (groupsBytes (slotGroups (stretch place to rules)) ++ back)) r
+  pub joined : Told limits (stretch place to rules) boxes (Begins work′ (groupsBytes (groupsOf (stretch place to rules)) ++ back)) r
   pub few : FewBoxes r
   pub beyond : drop (workSize limits) work′ ≡ drop (workSize limits) work
 

@@ -8,7 +8,7 @@ use Rattle.lists.specs.Lists.{Each}
 use Rattle.policy.specs.Fields.{countSize, recordSize}
 use Rattle.policy.specs.Rules.{Rule}
 use Rattle.policy.specs.Refusals.{unless}
-use Rattle.policy.specs.Move.{listRefusal}
+use Rattle.policy.proofs.Refused.{listRefusal}
 use Rattle.policy.specs.Edit.{changed}
 use Rattle.policy.specs.declared.Answer.the-variants.{Length}
 use Rattle.policy.proofs.Answers.{unless-accepted}
@@ -68,8 +68,8 @@ list-renewed {l} {n} {most} {place} {change} {new} {out} {out′} {end} {n′} c
       clean = u .0;
       rules = sym (u .1);
       count = e;
-      size = sym (b .place .whole) ∙ b .place .end;
-      limit = b .place .limit;
+      size = sym (b .place .whole) ∙ b .place .section .end;
+      limit = b .place .section .limit;
       there = omega arith;
       more = omega (arith, i .0, i .1);
       less = omega (arith, i .0, i .1);

@@ -12,7 +12,8 @@ use Rattle.lists.proofs.Lists.{three-parts}
 use Rattle.policy.specs.Fields.{countSize, limits}
 use Rattle.policy.specs.Rules.{Rule, complete}
 use Rattle.policy.specs.Refusals.{refused, test, unless, given, orElse, faults, numberOf}
-use Rattle.policy.specs.Move.{room, Order, Pair, badCount, listRefusal}
+use Rattle.policy.specs.Move.{room, Order, Pair, badCount}
+use Rattle.policy.proofs.Refused.{listRefusal}
 use Rattle.policy.specs.Edit.{Kind, out, put, front, gone, back, Edit, target, newList, newOrder, newSlots, edited, changeRefusal}
 use Rattle.policy.specs.declared.Answer.the-variants.{Refused}
 use Rattle.policy.specs.declared.Refusal.{Refusal}

@@ -10,7 +10,7 @@ use Rattle.lists.proofs.Lists.{append-none, three-parts}
 use Rattle.policy.specs.Fields.{limits}
 use Rattle.policy.specs.Ranges.{Region}
 use Rattle.policy.specs.Rules.{Rule, denies, allowsIn, anyAllow}
-use Rattle.policy.specs.Move.{kept, slots}
+use Rattle.policy.specs.Move.{kept, slots, alone}
 use Rattle.policy.specs.Edit.{Kind, out, put, front, gone, back, changed, around}
 use Rattle.policy.proofs.Edits.{slots-append, slots-length}
 use Rattle.policy.proofs.Kept.{denies-append}
@@ -18,7 +18,7 @@ use Rattle.wire.specs.Records.{rulesIn}
 use Rattle.wire.proofs.Records.{rulesIn-length}
 use Rattle.sheet.specs.Steps.{groupsFrom}
 use Rattle.sheet.proofs.Pairs.{denies-most}
-use Rattle.draft.specs.Steps.{alone, stretch, keptSlots, slotsAround, Placed}
+use Rattle.draft.specs.Steps.{stretch, keptSlots, slotsAround, Placed}
 use Rattle.draft.proofs.Drafts.{rules-front}
 use Rattle.planner.specs.Edits.{kindOf}
 use Rattle.planner.specs.declared.Change.{Change}

@@ -9,14 +9,15 @@ use lib.Seq.{take-at, drop-at, drop-drop}
 use Rattle.lists.specs.Lists.{Each}
 use Rattle.policy.specs.Fields.{countSize, limits}
 use Rattle.policy.specs.Refusals.{accepted, refused, numberOf}
-use Rattle.policy.specs.Move.{Order, Pair, listRefusal}
+use Rattle.policy.specs.Move.{Order, Pair}
+use Rattle.policy.proofs.Refused.{listRefusal}
 use Rattle.policy.specs.declared.Refusal.{Refusal}
 use Rattle.wire.specs.Numbers.{numberBytes, Byte}
 use Rattle.wire.proofs.Numbers.{numberBytes-length}
 use Rattle.wire.proofs.Records.{rulesIn-length}
 use Rattle.sheet.specs.Orders.{orderIn, orderBytes, listIn}
 use Rattle.sheet.specs.Pairs.{groupsBytes, pairIn, pairBytes}
-use Rattle.sheet.specs.Steps.{rulesOf, listHeard, ListPlace, ListPlaced, ListRead, listsOf, ListsPlace, orderHeard, OrderPlaced, OrderRead, pairOf, pairHeard, PairPlace, PairPlaced, PairRead}
+use Rattle.sheet.specs.Steps.{rulesOf, listHeard, ListPlace, OfRules, ListRead, listsOf, ListsPlace, orderHeard, OrderPlaced, OrderRead, pairOf, pairHeard, PairPlace, PairPlaced, PairRead}
 use Rattle.sheet.specs.declared.Section.{Section}
 use Rattle.sheet.specs.declared.Section.the-variants as S
 use Rattle.sheet.specs.declared.OrderParts.{OrderParts}
@@ -41,7 +42,7 @@ pub record ListAccepted (most : ℕ) (s : List ℕ) (n next : ℕ) : Type 0 wher
 
 pub list-accepted :
     {most : ℕ} {s : List ℕ} {r : Section} → ListRead most s r → Each Byte s → (n next : ℕ) → r ≡ S.Rules n next → ListAccepted most s n next
-unfolding listHeard ListPlaced
+unfolding listHeard OfRules
 list-accepted {most} {s} x b n next e =
     let p : listIn most s ≡ accepted (rulesOf n s) = sym (x .says) ∙ ap (listHeard s) e in
     record {

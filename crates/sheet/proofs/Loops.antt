@@ -10,7 +10,7 @@ use borrow.Author.Tests.{not-true, not-false, eq-eqb, ne-eqb}
 use Rattle.lists.specs.Lists.{every}
 use Rattle.policy.specs.Fields.{boxSize, recordSize}
 use Rattle.policy.specs.Rules.{Rule, isAllow, denies}
-use Rattle.wire.specs.Records.{boxIn, boxesIn, ruleIn, rulesIn}
+use Rattle.wire.specs.Records.{boxIn, boxesIn, ruleIn, rulesIn, eachIn}
 
 -- What is left at turn i begins with the item at the place reached.
 module _ {A : Type 0} (size : ℕ) (read : List ℕ → A) (readAll : ℕ → List ℕ → List A) where
@@ -25,20 +25,20 @@ module _ {A : Type 0} (size : ℕ) (read : List ℕ → A) (readAll : ℕ → Li
 
 pub rules-left :
     (n i at : ℕ) (s : List ℕ) → i < n → rulesIn (n - i) (drop at s) ≡ ruleIn (drop at s) ∷ rulesIn (n - (i + 1)) (drop (at + recordSize) s)
-unfolding rulesIn
+unfolding eachIn
 rules-left = left recordSize ruleIn rulesIn (λ n s. refl)
 
 pub no-rules : (n i : ℕ) (s : List ℕ) → n ≤ i → rulesIn (n - i) s ≡ []
-unfolding rulesIn
+unfolding eachIn
 no-rules = none recordSize ruleIn rulesIn (λ s. refl)
 
 pub boxes-left :
     (n i at : ℕ) (s : List ℕ) → i < n → boxesIn (n - i) (drop at s) ≡ boxIn (drop at s) ∷ boxesIn (n - (i + 1)) (drop (at + boxSize) s)
-unfolding boxesIn
+unfolding eachIn
 boxes-left = left boxSize (λ s. boxIn s) boxesIn (λ n s. refl)
 
 pub no-boxes : (n i : ℕ) (s : List ℕ) → n ≤ i → boxesIn (n - i) s ≡ []
-unfolding boxesIn
+unfolding eachIn
 no-boxes = none boxSize (λ s. boxIn s) boxesIn (λ s. refl)
 
 -- A test of every item.

@@ -11,7 +11,8 @@ use Rattle.lists.specs.Lists.{Each}
 use Rattle.policy.specs.Fields.{Limits}
 use Rattle.policy.specs.Rules.{Rule, sound}
 use Rattle.policy.specs.Refusals.{Outcome, accepted, andThen, orElse, unless}
-use Rattle.policy.specs.Move.{Order, listRefusal}
+use Rattle.policy.specs.Move.{Order}
+use Rattle.policy.proofs.Refused.{listRefusal}
 use Rattle.wire.specs.Numbers.{Byte}
 use Rattle.wire.proofs.Numbers.{bytes-drop}
 use Rattle.wire.proofs.Records.{RuleFits, sound-fits}

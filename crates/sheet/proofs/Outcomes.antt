@@ -11,7 +11,7 @@ use Rattle.lists.specs.Lists.{every}
 use Rattle.policy.proofs.Answers.{test-accepted}
 use Rattle.policy.specs.Rules.{Rule, sound, complete}
 use Rattle.policy.specs.Refusals.{Outcome, accepted, refused, test, andThen, given, orElse, unless, faults}
-use Rattle.policy.specs.Move.{listRefusal}
+use Rattle.policy.proofs.Refused.{listRefusal}
 
 module _ {A : Type 0} where
   -- tests in their order, and their numbers in theirs

@@ -13,9 +13,10 @@ use Rattle.policy.specs.Fields.{Limits, highest, widths, boxSize, countSize}
 use Rattle.policy.specs.Ranges.{Region, proper}
 use Rattle.policy.specs.Rules.{Rule, isAllow, denies}
 use Rattle.policy.specs.Refusals.{accepted}
-use Rattle.policy.specs.Move.{Order, Pair, together, listRefusal}
+use Rattle.policy.specs.Move.{Order, Pair, together}
+use Rattle.policy.proofs.Refused.{listRefusal}
 use Rattle.wire.specs.Numbers.{numberBytes, Byte}
-use Rattle.wire.specs.Records.{Fits, boxesBytes}
+use Rattle.wire.specs.Records.{Fits, boxesBytes, eachBytes}
 use Rattle.wire.proofs.Numbers.{numberBytes-length, bytes-drop}
 use Rattle.wire.proofs.Records.{proper-fits, boxesIn-length, boxesBytes-length, boxes-back, boxes-written-back}
 use Rattle.sheet.specs.Sections.{Reading, reading}
@@ -100,7 +101,7 @@ group-written-back s b h =
 groups-written-back :
     (lim : Limits) (n total : ℕ) (s : List ℕ) (r : Reading (List (List Region))) → Each Byte s
     → groupsIn lim n total s ≡ accepted r → groupsBytes (r .value) ++ r .rest ≡ s
-unfolding groupsIn groupsBytes
+unfolding groupsIn eachBytes
 groups-written-back lim zero total s r b e =
     let p : reading [] s ≡ r = cc in
     λ i. groupsBytes (sym p i .value) ++ sym p i .rest
@@ -116,7 +117,7 @@ groups-written-back lim (suc n) total s r b e =
 groups-back :
     (lim : Limits) (gs : List (List Region)) (total : ℕ) (t : List ℕ) → lim .total < 65536 → Each ProperGroup gs
     → total + length (together gs) ≤ lim .total → groupsIn lim (length gs) total (groupsBytes gs ++ t) ≡ accepted (reading gs t)
-unfolding groupsIn groupsBytes groupBytes Each together
+unfolding groupsIn eachBytes groupBytes Each together
 groups-back lim [] total t m h w = refl
 groups-back lim (g ∷ gs) total t m h w =
     let n : ℕ = length g in

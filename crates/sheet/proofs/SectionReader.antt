@@ -15,17 +15,17 @@ use Rattle.policy.specs.Rules.{sound, complete}
 use Rattle.policy.specs.Refusals.{accepted, refused, test, numberOf}
 use Rattle.policy.specs.declared.Refusal.{Refusal}
 use Rattle.policy.specs.declared.Refusal.the-variants.{CountOutside, LengthWrong, RuleBad, NotComplete}
-use Rattle.wire.specs.Records.{boxIn, ruleIn, rulesIn}
+use Rattle.wire.specs.Records.{boxIn, ruleIn, rulesIn, eachIn}
 use Rattle.sheet.specs.Sections.{reading, section}
 use Rattle.sheet.specs.Orders.{listIn}
-use Rattle.sheet.specs.Steps.{rulesOf, sectionHeard, SectionPlace, SectionPlaced, SectionRead, listHeard, ListPlaced, ListRead}
+use Rattle.sheet.specs.Steps.{rulesOf, sectionHeard, SectionPlace, OfRules, SectionRead, listHeard, ListRead}
 use Rattle.sheet.specs.declared.Section.{Section}
 use Rattle.sheet.specs.declared.Section.the-variants.{Rules, Fault}
 use Rattle.wire.specs.Lists.{countIn, listSize}
 
 -- The last of n rules, where the code finds it.
 complete-at : (n : ℕ) (s : List ℕ) → complete (rulesIn (suc n) s) ≡ isFull highest (boxIn (drop (recordSize * n) s))
-unfolding complete rulesIn ruleIn
+unfolding complete eachIn ruleIn
 complete-at zero s = refl
 complete-at (suc n) s =
     let e : recordSize + recordSize * n ≡ recordSize * suc n = omega arith in
@@ -39,7 +39,7 @@ complete-last (suc n) s h =
 
 module _ (most : ℕ) (s : List ℕ) where
   faulty : (f : Refusal) → section most s ≡ refused (numberOf f) → SectionRead most s (Fault f)
-  unfolding sectionHeard SectionPlaced
+  unfolding sectionHeard OfRules
   faulty f e = record { says = sym e; place = tt }
 
   pub no-count : length s < countSize → SectionRead most s (Fault LengthWrong)
@@ -82,7 +82,7 @@ module _ (most : ℕ) (s : List ℕ) where
             not-full l = faulty NotComplete (there ∙ rw (sym k ∙ not-false v h, last-is ∙ not-true u l) refl)
 
             pub section-read : not u ≡ false → SectionRead most s (Rules n (listSize n))
-            unfolding sectionHeard SectionPlaced
+            unfolding sectionHeard OfRules
             section-read l = record {
               says = sym (there ∙ rw (sym k ∙ not-false v h, last-is ∙ not-false u l) refl);
               place = record { end = refl; inside = g; limit = d };
@@ -100,13 +100,13 @@ unfolding sectionHeard
 section-rules {s = s} x n next e = sym (x .says) ∙ ap (sectionHeard s) e
 
 pub section-place : {most : ℕ} {s : List ℕ} {r : Section} → SectionRead most s r → (n next : ℕ) → r ≡ Rules n next → SectionPlace most s n next
-unfolding SectionPlaced
+unfolding OfRules
 section-place x n next e = rw e at (x .place)
 
 -- A list by itself.
 module _ {most : ℕ} {s : List ℕ} where
   list-faulty : (f : Refusal) → listIn most s ≡ refused (numberOf f) → ListRead most s (Fault f)
-  unfolding listHeard ListPlaced
+  unfolding listHeard OfRules
   list-faulty f e = record { says = sym e; place = tt }
 
   module _ {r : Section} (x : SectionRead most s r) where
@@ -121,10 +121,11 @@ module _ {most : ℕ} {s : List ℕ} where
           list-faulty LengthWrong (rw (section-rules x n next e, ne-eqb (length (drop next s)) 0 (λ z. omega (arith, length-drop next s))) refl)
 
       pub list-read : length s ≤ next → ListRead most s (Rules n next)
-      unfolding listIn listHeard ListPlaced
+      unfolding listIn listHeard OfRules
       list-read h =
           let p = section-place x n next e in
+          let i = p .inside in
           record {
             says = sym (rw (section-rules x n next e, eq-eqb (length (drop next s)) 0 (omega (arith, length-drop next s))) refl);
-            place = record { end = p .end; whole = omega arith; limit = p .limit };
+            place = record { section = p; whole = omega arith };
           }

@@ -10,7 +10,7 @@ use Rattle.lists.specs.Lists.{Each, every}
 use Rattle.policy.specs.Fields.{countSize, recordSize}
 use Rattle.policy.specs.Rules.{Rule, sound, complete}
 use Rattle.policy.specs.Refusals.{accepted, unless}
-use Rattle.policy.specs.Move.{listRefusal}
+use Rattle.policy.proofs.Refused.{listRefusal}
 use Rattle.wire.specs.Numbers.{Byte}
 use Rattle.wire.specs.Records.{recordsBytes, rulesIn}
 use Rattle.wire.proofs.Records.{RuleFits, rulesIn-length, recordsBytes-length, rules-back}

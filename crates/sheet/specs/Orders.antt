@@ -30,7 +30,7 @@ orderIn lim s = andThen (listsIn lim s) (λ r. ended r (r .value))
 unfoldable pub orderBytes : Order → List ℕ
 orderBytes o = listBytes (o .gate) ++ listBytes (o .own)
 
--- A list of A or of B by itself.
+-- A list by itself, with nothing behind it.
 unfoldable pub listIn : ℕ → List ℕ → Outcome (List Rule)
 listIn most s = andThen (section most s) (λ a. ended a (a .value))
 

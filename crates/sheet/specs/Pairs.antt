@@ -11,7 +11,7 @@ use Rattle.policy.specs.Rules.{denies}
 use Rattle.policy.specs.Refusals.{Outcome, accepted, test, andThen}
 use Rattle.policy.specs.Move.{Order, Pair}
 use Rattle.wire.specs.Numbers.{numberBytes}
-use Rattle.wire.specs.Records.{boxesBytes, boxesIn}
+use Rattle.wire.specs.Records.{boxesBytes, boxesIn, eachBytes}
 use Rattle.sheet.specs.Sections.{Reading, reading}
 use Rattle.sheet.specs.Orders.{ended, listsIn, orderBytes, orderSize}
 use Rattle.wire.specs.Lists.{countIn}
@@ -54,9 +54,8 @@ pairIn lim s = andThen (listsIn lim s) (λ r. groupSection lim (r .value) (r .re
 unfoldable pub groupBytes : List Region → List ℕ
 groupBytes g = numberBytes countSize (length g) ++ boxesBytes g
 
-unfoldable pub groupsBytes : List (List Region) → List ℕ
-groupsBytes [] = []
-groupsBytes (g ∷ gs) = groupBytes g ++ groupsBytes gs
+abbrev pub groupsBytes : List (List Region) → List ℕ
+groupsBytes gs = eachBytes groupBytes gs
 
 unfoldable pub pairBytes : Pair → List ℕ
 pairBytes s = orderBytes (s .order) ++ (numberBytes countSize (length (s .groups)) ++ groupsBytes (s .groups))

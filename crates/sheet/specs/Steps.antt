@@ -39,13 +39,14 @@ pub record SectionPlace (most : ℕ) (s : List ℕ) (n next : ℕ) : Type 0 wher
   pub inside : next ≤ length s
   pub limit : n ≤ most
 
-unfoldable pub SectionPlaced : ℕ → List ℕ → Section → Type 0
-SectionPlaced most s (S.Rules n next) = SectionPlace most s n next
-SectionPlaced most s (S.Fault f) = Unit {0}
+-- What is said of the rules that were read; of a fault nothing is.
+unfoldable pub OfRules : (ℕ → ℕ → Type 0) → Section → Type 0
+OfRules says (S.Rules n next) = says n next
+OfRules says (S.Fault f) = Unit {0}
 
 pub record SectionRead (most : ℕ) (s : List ℕ) (r : Section) : Type 0 where
   pub says : sectionHeard s r ≡ section most s
-  pub place : SectionPlaced most s r
+  pub place : OfRules (SectionPlace most s) r
 
 -- A list by itself: a section that ends where the bytes end.
 unfoldable pub listHeard : List ℕ → Section → Outcome (List Rule)
@@ -53,17 +54,12 @@ listHeard s (S.Rules n next) = accepted (rulesOf n s)
 listHeard s (S.Fault f) = refused (numberOf f)
 
 pub record ListPlace (most : ℕ) (s : List ℕ) (n next : ℕ) : Type 0 where
-  pub end : next ≡ listSize n
+  pub section : SectionPlace most s n next
   pub whole : next ≡ length s
-  pub limit : n ≤ most
-
-unfoldable pub ListPlaced : ℕ → List ℕ → Section → Type 0
-ListPlaced most s (S.Rules n next) = ListPlace most s n next
-ListPlaced most s (S.Fault f) = Unit {0}
 
 pub record ListRead (most : ℕ) (s : List ℕ) (r : Section) : Type 0 where
   pub says : listHeard s r ≡ listIn most s
-  pub place : ListPlaced most s r
+  pub place : OfRules (ListPlace most s) r
 
 -- Sections A and B, where B begins at `middle`.
 abbrev pub listsOf : ℕ → ℕ → ℕ → List ℕ → Order

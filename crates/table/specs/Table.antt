@@ -3,16 +3,15 @@ use mathlib.Core.Path.{_≡_}
 use mathlib.Core.List.{List}
 use Prim.Native.Nat.{ℕ, _^_, _<_}
 use lib.Dec.{leb}
-use lib.ListN.{length, take, drop}
+use lib.ListN.{length, drop}
 use Rattle.lists.specs.Lists.{Each}
 use Rattle.policy.specs.Fields.{widths, actionSize, countSize}
 use Rattle.policy.specs.Ranges.{Packet}
 use Rattle.policy.specs.Rules.{Rule}
 use Rattle.policy.specs.Refusals.{Outcome, test}
-use Rattle.wire.specs.Numbers.{numberIn}
 use Rattle.wire.specs.Records.{Fits, rulesIn}
 use Rattle.filter.specs.Lookup.{Hit, lookFrom, lookup}
-use Rattle.wire.specs.Lists.{listBytes, listSize}
+use Rattle.wire.specs.Lists.{countIn, listBytes, listSize}
 
 -- The count is within its limits (2); then the rules, in the order and with the numbers that list bytes have.
 unfoldable pub lookupTable : ℕ → Packet → List Rule → Outcome Hit
@@ -27,7 +26,7 @@ Storable r = Fits widths (r .region) × (r .action < 256 ^ actionSize)
 -- that of their count.
 pub record Agrees (most : ℕ) (p : Packet) : Type 0 where
   pub as-bytes : (l : List Rule) → Each Storable l → length l < 256 ^ countSize → lookup most p (listBytes l) ≡ lookupTable most p l
-  pub as-rules : (s : List ℕ) (n : ℕ) → n ≡ numberIn (take countSize s) → length s ≡ listSize n
+  pub as-rules : (s : List ℕ) (n : ℕ) → n ≡ countIn s → length s ≡ listSize n
       → lookupTable most p (rulesIn n (drop countSize s)) ≡ lookup most p s
 
 abbrev pub AgreesTheorem : Type 0

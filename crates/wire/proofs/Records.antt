@@ -192,18 +192,11 @@ record-written-back s h b =
 
 -- Boxes and records one after another.
 boxItems : Items Region
-unfolding boxesBytes boxesIn
 boxItems = record {
   size = boxSize;
   write = boxBytes;
   read = boxIn;
-  writeAll = boxesBytes;
-  readAll = boxesIn;
   Good = Fits widths;
-  none-written = refl;
-  more-written = λ b bs. refl;
-  none-read = λ s. refl;
-  more-read = λ n s. refl;
   written-length = boxBytes-length;
   read-back = box-back;
   written-back = box-written-back;
@@ -211,18 +204,11 @@ boxItems = record {
 }
 
 ruleItems : Items Rule
-unfolding recordsBytes rulesIn
 ruleItems = record {
   size = recordSize;
   write = recordBytes;
   read = ruleIn;
-  writeAll = recordsBytes;
-  readAll = rulesIn;
   Good = RuleFits;
-  none-written = refl;
-  more-written = λ r rs. refl;
-  none-read = λ s. refl;
-  more-read = λ n s. refl;
   written-length = recordBytes-length;
   read-back = rule-back;
   written-back = record-written-back;
@@ -280,9 +266,3 @@ rules-from = items-from ruleItems
 pub rule-in-place : (i n : ℕ) (s : List ℕ) (d : Rule) → i < n → getD (rulesIn n s) i d ≡ ruleIn (drop (recordSize * i) s)
 unfolding ruleItems
 rule-in-place = item-at ruleItems
-
--- the records of two lists, one behind the other
-pub records-append : (x y : List Rule) → recordsBytes (x ++ y) ≡ recordsBytes x ++ recordsBytes y
-unfolding recordsBytes
-records-append [] y = refl
-records-append (r ∷ x) y = rw (records-append x y) (sym (append-assoc (recordBytes r) (recordsBytes x) (recordsBytes y)))

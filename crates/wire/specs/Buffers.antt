@@ -1,8 +1,14 @@
 -- What writing leaves in a lent buffer (01, Calls and Numbers given back). Assumes nothing.
 use mathlib.Core.List.{List, _++_}
+use mathlib.Core.Bool.{Bool}
 use Prim.Native.Nat.{ℕ, _+_, _-_}
+use lib.Dec.{leb}
 use lib.ListN.{length, take, drop, replicate}
 use Rattle.policy.specs.Refusals.{Outcome, accepted, refused}
+
+-- Number 1: what is lent is long enough.
+unfoldable pub roomFor : ℕ → List ℕ → Bool
+roomFor n out = leb n (length out)
 
 -- The bytes from one place up to another set to zero.
 unfoldable pub zeroed : ℕ → ℕ → List ℕ → List ℕ

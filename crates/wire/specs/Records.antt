@@ -32,22 +32,27 @@ recordBytes r = boxBytes (r .region) ++ numberBytes actionSize (r .action)
 unfoldable pub ruleIn : List ℕ → Rule
 ruleIn s = rule (boxIn s) (numberIn (take actionSize (drop boxSize s)))
 
--- Boxes and records one after another: written, and n of them read.
-unfoldable pub boxesBytes : List Region → List ℕ
-boxesBytes [] = []
-boxesBytes (b ∷ bs) = boxBytes b ++ boxesBytes bs
+-- Items one after another: written, and n of them read, each of the same size.
+unfoldable pub eachBytes : {A : Type 0} → (A → List ℕ) → List A → List ℕ
+eachBytes write [] = []
+eachBytes write (a ∷ l) = write a ++ eachBytes write l
 
-unfoldable pub boxesIn : ℕ → List ℕ → List Region
-boxesIn zero s = []
-boxesIn (suc n) s = boxIn s ∷ boxesIn n (drop boxSize s)
+unfoldable pub eachIn : {A : Type 0} → ℕ → (List ℕ → A) → ℕ → List ℕ → List A
+eachIn size read zero s = []
+eachIn size read (suc n) s = read s ∷ eachIn size read n (drop size s)
 
-unfoldable pub recordsBytes : List Rule → List ℕ
-recordsBytes [] = []
-recordsBytes (r ∷ rs) = recordBytes r ++ recordsBytes rs
+-- So for boxes and for records.
+abbrev pub boxesBytes : List Region → List ℕ
+boxesBytes bs = eachBytes boxBytes bs
 
-unfoldable pub rulesIn : ℕ → List ℕ → List Rule
-rulesIn zero s = []
-rulesIn (suc n) s = ruleIn s ∷ rulesIn n (drop recordSize s)
+abbrev pub boxesIn : ℕ → List ℕ → List Region
+boxesIn n s = eachIn boxSize boxIn n s
+
+abbrev pub recordsBytes : List Rule → List ℕ
+recordsBytes rs = eachBytes recordBytes rs
+
+abbrev pub rulesIn : ℕ → List ℕ → List Rule
+rulesIn n s = eachIn recordSize ruleIn n s
 
 -- Every number of the box fits its field's width, and there are as many as the table has.
 unfoldable pub Fits : List ℕ → Region → Type 0
