@@ -1,3 +1,4 @@
 pub mod Codes
 pub mod Plain
 pub mod Once
+pub mod Loaded

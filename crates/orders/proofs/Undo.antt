@@ -23,19 +23,19 @@ use Rattle.sheet.proofs.Outcomes.{through}
 use Rattle.sheet.proofs.Orders.{order-again, order-faultless, order-written-back, list-again, list-faultless, list-written-back}
 use Rattle.wire.specs.Lists.{listBytes}
 
-content-front : (end : ℕ) (out content : List ℕ) (n : ℕ) → n ≡ length content → take n (filled end out content) ≡ content
+pub content-front : (end : ℕ) (out content : List ℕ) (n : ℕ) → n ≡ length content → take n (filled end out content) ≡ content
 unfolding filled
 content-front end out content n e = take-at content (replicate (end - length content) 0 ++ drop end out) n (sym e)
 
 -- What an accepted split gave.
-record SplitAccepted (s a b : List ℕ) (n : ℕ) (a′ b′ : List ℕ) : Type 0 where
+pub record SplitAccepted (s a b : List ℕ) (n : ℕ) (a′ b′ : List ℕ) : Type 0 where
   pub lists : Order
   pub reads : orderIn limits s ≡ accepted lists
   pub answer : n ≡ length (listBytes (lists .gate))
   pub gate : a′ ≡ filled (gateSize limits) a (listBytes (lists .gate))
   pub own : b′ ≡ filled (ownSize limits) b (listBytes (lists .own))
 
-split-accepted : {s a b : List ℕ} {n : ℕ} {a′ b′ : List ℕ} → Split s a b (Length n) a′ b′ → SplitAccepted s a b n a′ b′
+pub split-accepted : {s a b : List ℕ} {n : ℕ} {a′ b′ : List ℕ} → Split s a b (Length n) a′ b′ → SplitAccepted s a b n a′ b′
 unfolding splitOf lengthOf written roomFor
 split-accepted {s} {a} {b} {n} {a′} {b′} x = go (splitOf limits s a b) refl (x .answer) (x .gate) (x .own)
   where

@@ -1,19 +1,21 @@
 -- What the tests of the lent buffers and the clearing of the work buffer make of a call's inner part; and two outcomes of one
 -- call are equal. Assumes nothing.
-use mathlib.Core.Path.{_≡_, sym, _∙_}
+use mathlib.Core.Path.{_≡_, refl, ap, sym, _∙_}
 use mathlib.Core.List.{List}
 use mathlib.Core.Bool.{Bool, true, false, _&&_}
 use Prim.Native.Nat.{ℕ, _≤_, _<_}
-use lib.ListN.{length, drop}
+use native.Mathlib.Omega.{arith}
+use lib.ListN.{length, take, drop}
+use lib.Seq.{take-at}
 use borrow.Author.Tests.{le-leb, lt-leb}
 use Rattle.lists.proofs.Tests.{and-both}
 use Rattle.policy.specs.Fields.{limits, workSize}
-use Rattle.policy.specs.Refusals.{Outcome}
+use Rattle.policy.specs.Refusals.{Outcome, accepted, refused, test}
 use Rattle.policy.specs.declared.Answer.{Answer}
-use Rattle.policy.specs.declared.Answer.the-variants.{Refused}
+use Rattle.policy.specs.declared.Answer.the-variants.{Length, Refused}
 use Rattle.policy.specs.declared.Refusal.the-variants.{BufferShort}
 use Rattle.policy.proofs.Answers.{said-once}
-use Rattle.wire.specs.Buffers.{zeroed, written, lengthOf, roomFor}
+use Rattle.wire.specs.Buffers.{zeroed, written, lengthOf, roomFor, filled}
 use Rattle.planner.specs.Calls.{workAfter, Call}
 use Rattle.planner.specs.Steps.{Writes}
 
@@ -53,3 +55,26 @@ module _ {A : Type 0} (bytes : A → List ℕ) (size : ℕ) (lent : Bool) (x : O
 
   pub call-once : {r q : Answer} {y z u v : List ℕ} → Call bytes size lent x out w r y u → Call bytes size lent x out w q z v → (r ≡ q) × (y ≡ z) × (u ≡ v)
   call-once {r = r} {q = q} a b = (said-once r q (a .answer ∙ sym (b .answer)), a .result ∙ sym (b .result), a .work ∙ sym (b .work))
+
+-- What a call that was accepted was lent, and what it leaves.
+pub record CallAccepted {A : Type 0} (bytes : A → List ℕ) (size : ℕ) (lent : Bool) (x : Outcome A) (out left : List ℕ) (n : ℕ) : Type 0 where
+  pub room : lent ≡ true
+  pub value : A
+  pub is : x ≡ accepted value
+  pub answer : n ≡ length (bytes value)
+  pub leaves : left ≡ filled size out (bytes value)
+
+accepts : {A : Type 0} (bytes : A → List ℕ) (size : ℕ) (lent : Bool) (x : Outcome A) (out left : List ℕ) (n : ℕ) → accepted n ≡ lengthOf bytes (test lent 1 x)
+    → left ≡ written bytes size out (test lent 1 x) → CallAccepted bytes size lent x out left n
+unfolding lengthOf written
+accepts bytes size true (accepted p) out left n e f = record { room = refl; value = p; is = refl; answer = cc; leaves = f }
+accepts bytes size true (refused k) out left n e f = let z : _≡_ {A = ℕ} 0 1 = cc in absurd (omega arith)
+accepts bytes size false x out left n e f = let z : _≡_ {A = ℕ} 0 1 = cc in absurd (omega arith)
+
+module _ {A : Type 0} (bytes : A → List ℕ) (size : ℕ) (lent : Bool) (x : Outcome A) {out w left w′ : List ℕ} {n : ℕ} (c : Call bytes size lent x out w (Length n) left w′) where
+  pub call-accepted : CallAccepted bytes size lent x out left n
+  call-accepted = accepts bytes size lent x out left n (c .answer) (c .result)
+
+  pub call-content : take n left ≡ bytes (call-accepted .value)
+  unfolding filled
+  call-content = ap (take n) (call-accepted .leaves) ∙ take-at (bytes (call-accepted .value)) _ n (sym (call-accepted .answer))

@@ -41,6 +41,7 @@ use Rattle.planner.specs.Theorems.{
   OthersTheorem,
   PlannerTheorem,
 }
+use Rattle.planner.proofs.Calls.{CallAccepted, call-accepted}
 use Rattle.planner.proofs.Demands.{
   limits-small,
   move-read,
@@ -57,26 +58,17 @@ use Rattle.planner.proofs.Demands.{
   own-edit-keeps-groups,
 }
 
--- a call that was accepted was lent enough, and leaves the pair's sheet
-record Accepts (lent : Bool) (x : Outcome Pair) (out left : List ℕ) (n : ℕ) : Type 0 where
-  pub room : lent ≡ true
-  pub pair : Pair
-  pub is : x ≡ accepted pair
-  pub leaves : record { buffer = left; used = n } ≡ held limits out pair
-
-accepts : (lent : Bool) (x : Outcome Pair) (out left : List ℕ) (n : ℕ) → accepted n ≡ lengthOf pairBytes (test lent 1 x)
-    → left ≡ written pairBytes (pairSize limits) out (test lent 1 x) → Accepts lent x out left n
-unfolding lengthOf written
-accepts true (accepted p) out left n e f = let k : n ≡ length (pairBytes p) = cc in record { room = refl; pair = p; is = refl; leaves = rw (k, f) }
-accepts true (refused k) out left n e f = let z : _≡_ {A = ℕ} 0 1 = cc in absurd (omega arith)
-accepts false x out left n e f = let z : _≡_ {A = ℕ} 0 1 = cc in absurd (omega arith)
+-- what an accepted call that writes a pair sheet leaves
+leaves-held : {lent : Bool} {x : Outcome Pair} {out left : List ℕ} {n : ℕ} (c : CallAccepted pairBytes (pairSize limits) lent x out left n)
+    → record { buffer = left; used = n } ≡ held limits out (c .value)
+leaves-held c = λ i. record { buffer = c .leaves i; used = c .answer i }
 
 -- Demand 2.
 pub move-call-holds : MoveTheorem
 move-call-holds s out w left w′ n bytes x =
-    let m = accepts (bothLent (pairSize limits) out w) (moveOf limits s) out left n (x .answer) (x .result) in
-    let d = demand-two limits limits-small s (m .pair) bytes (m .is) in
-    (d .0, m .pair, d .1, m .leaves)
+    let m = call-accepted pairBytes (pairSize limits) (bothLent (pairSize limits) out w) (moveOf limits s) x in
+    let d = demand-two limits limits-small s (m .value) bytes (m .is) in
+    (d .0, m .value, d .1, leaves-held m)
 
 checked : (lent : Bool) (x : Outcome Pair) (n : ℕ) → accepted n ≡ answered 0 (test lent 1 x) → (p : Pair) × (x ≡ accepted p)
 unfolding answered
@@ -135,10 +127,10 @@ record Ended (o : Order) (out : List ℕ) (l : List EditCall) (last : Held) : Ty
 
 run-ended : (o : Order) (out : List ℕ) (l : List EditCall) (last : Held) → MoveAndEdits o out l last → Ended o out l last
 run-ended o out l last x =
-    let m = accepts (bothLent (pairSize limits) out (x .work)) (moveOf limits (x .sheet)) out (x .left) (x .answer) (x .move .answer) (x .move .result) in
-    let r = move-read limits limits-small (x .sheet) (m .pair) (m .is) in
+    let m = call-accepted pairBytes (pairSize limits) (bothLent (pairSize limits) out (x .work)) (moveOf limits (x .sheet)) (x .move) in
+    let r = move-read limits limits-small (x .sheet) (m .value) (m .is) in
     let i : r .order ≡ o = cc (r .reads, x .reads) in
-    let start : record { buffer = x .left; used = x .answer } ≡ held limits out (moved o) = m .leaves ∙ (ap (held limits out) (r .pair) ∙ ap (λ (y : Order). held limits out (moved y)) i) in
+    let start : record { buffer = x .left; used = x .answer } ≡ held limits out (moved o) = leaves-held m ∙ (ap (held limits out) (r .pair) ∙ ap (λ (y : Order). held limits out (moved y)) i) in
     let e = run-ends l out o last (ap (moveRefusal limits) (sym i) ∙ r .none) (subst (λ (h : Held). EditCalls l h last) start (x .edits)) in
     record { lent = and-true (roomFor (pairSize limits) out) _ (m .room) .0; none = e .0; end = e .1 }
 
@@ -217,15 +209,15 @@ next-edit-as-fresh o out l last x a r q b c edit move =
 pub edit-keeps-others : OthersTheorem
 unfolding editedOf
 edit-keeps-others buffer w left w′ used n a x =
-    let m = accepts (editLent buffer used w) (editedOf limits (take used buffer) a) buffer left n (x .answer) (x .result) in
-    let t = through (pairIn limits (take used buffer)) (changeOf limits a) (m .pair) (m .is) in
+    let m = call-accepted pairBytes (pairSize limits) (editLent buffer used w) (editedOf limits (take used buffer) a) x in
+    let t = through (pairIn limits (take used buffer)) (changeOf limits a) (m .value) (m .is) in
     let p = t .value in
-    let s = m .pair in
+    let s = m .value in
     let is = edited-is limits limits-small (take used buffer) a p s (t .first) (m .is) in (
       p,
       s,
       t .first,
-      m .leaves,
+      leaves-held m,
       record {
         lists = λ i. sym is i .order;
         sheet = edited-sheet limits limits-small (take used buffer) a p s (t .first) (m .is);

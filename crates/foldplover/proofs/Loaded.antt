@@ -1,0 +1,85 @@
+-- What is loaded forwards what was forwarded, by the firmware's own lookup: from the calls' statements. Assumes nothing.
+use mathlib.Core.Path.{_≡_, refl, ap, sym, _∙_}
+use mathlib.Core.List.{List}
+use mathlib.Core.Bool.{Bool}
+use Prim.Native.Nat.{ℕ, _+_, _-_, _≤_}
+use native.Mathlib.Omega.{arith}
+use lib.ListN.{length, take, length-append}
+use Rattle.policy.specs.Fields.{limits}
+use Rattle.policy.specs.Ranges.{Packet}
+use Rattle.policy.specs.Rules.{Rule, Found, found, nothing, saysAllow, first, allows}
+use Rattle.policy.specs.Refusals.{accepted}
+use Rattle.policy.specs.Move.{Order, Pair, gateList, cellList}
+use Rattle.policy.proofs.Refused.{listRefusal}
+use Rattle.policy.proofs.Edits.{list-accepted}
+use Rattle.wire.specs.Lists.{listBytes}
+use Rattle.filter.specs.Lookup.{decidedBy}
+use Rattle.filter.proofs.Lists.{lookup-first}
+use Rattle.wire.specs.Buffers.{filled}
+use Rattle.sheet.specs.Orders.{orderIn, orderBytes, gateSize, ownSize}
+use Rattle.sheet.specs.Pairs.{pairBytes, pairSize}
+use Rattle.sheet.proofs.Outcomes.{faultless}
+use Rattle.sheet.proofs.Orders.{list-faultless, order-faultless}
+use Rattle.orders.proofs.Undo.{split-accepted, content-front}
+use Rattle.planner.specs.Calls.{bothLent, checkOf, gateBytes, gateListSize, cellBytes, cellListSize}
+use Rattle.planner.proofs.Calls.{call-accepted, call-content}
+use Rattle.planner.proofs.Theorems.{move-call-holds}
+use Rattle.foldplover.specs.Loaded.{allowed, passes, Listed, SplitInto, LoadedTheorem}
+
+decided-allowed : (x : Found) → allowed (decidedBy x) ≡ saysAllow x
+decided-allowed (found n a) = refl
+decided-allowed nothing = refl
+
+-- in the bytes of a list without fault a filter lets through what the list allows
+passes-list : (most : ℕ) (q : Packet) (l : List Rule) → most ≤ limits .total → listRefusal most l ≡ 0 → passes q (listBytes l) ≡ allows q l
+passes-list most q l h e =
+    let f = faultless most l e in
+    ap allowed (lookup-first (limits .total) q l (list-accepted most l e .0) (f .few) (omega (arith, f .many)) (omega arith)) ∙ decided-allowed (first q l)
+
+-- what an accepted list call of a sheet that check accepts as p wrote
+listed-is : (bytes : Pair → List ℕ) (size : ℕ) (sheet list : List ℕ) (p : Pair) → checkOf limits sheet ≡ accepted p → Listed bytes size sheet list → list ≡ bytes p
+listed-is bytes size sheet list p e x =
+    let lent : Bool = bothLent size (x .out) (x .work) in
+    let c = call-accepted bytes size lent (checkOf limits sheet) (x .call) in
+    let same : c .value ≡ p = cc (c .is, e) in
+    sym (x .content) ∙ (call-content bytes size lent (checkOf limits sheet) (x .call) ∙ ap bytes same)
+
+-- what an accepted split call wrote of a sheet that reads as o
+record SplitIs (a b : List ℕ) (o : Order) : Type 0 where
+  pub gate : a ≡ listBytes (o .gate)
+  pub own : b ≡ listBytes (o .own)
+
+split-is : (s a b : List ℕ) (o : Order) → orderIn limits s ≡ accepted o → orderBytes o ≡ s → SplitInto s a b → SplitIs a b o
+unfolding orderBytes
+split-is s a b o e bytes x =
+    let c = split-accepted (x .call) in
+    let same : c .lists ≡ o = cc (c .reads, e) in
+    let n : x .answer ≡ length (listBytes (o .gate)) = c .answer ∙ ap (λ (y : Order). length (listBytes (y .gate))) same in
+    let l : length s ≡ length (listBytes (o .gate)) + length (listBytes (o .own)) = ap length (sym bytes) ∙ length-append (listBytes (o .gate)) (listBytes (o .own)) in
+    let first : x .leftA ≡ filled (gateSize limits) (x .outA) (listBytes (o .gate)) = c .gate ∙ ap (λ (y : Order). filled (gateSize limits) (x .outA) (listBytes (y .gate))) same in
+    let second : x .leftB ≡ filled (ownSize limits) (x .outB) (listBytes (o .own)) = c .own ∙ ap (λ (y : Order). filled (ownSize limits) (x .outB) (listBytes (y .own))) same in
+    record {
+      gate = sym (x .contentA) ∙ (ap (take (x .answer)) first ∙ content-front (gateSize limits) (x .outA) (listBytes (o .gate)) (x .answer) n);
+      own = sym (x .contentB) ∙ (ap (take (length s - x .answer)) second ∙ content-front (ownSize limits) (x .outB) (listBytes (o .own)) (length s - x .answer) (omega arith));
+    }
+
+pub loaded-forwards : LoadedTheorem
+unfolding gateBytes cellBytes
+loaded-forwards s sheet a b gate cell bytes split move g c q =
+    let d = move-call-holds s (move .out) (move .work) (move .left) (move .work′) (move .answer) bytes (move .call) in
+    let o : Order = d .0 in
+    let p : Pair = d .1 in
+    let two = d .2 in
+    let is : sheet ≡ pairBytes p =
+    sym (move .content) ∙ ((λ i. take (d .3 i .used) (d .3 i .buffer)) ∙ content-front (pairSize limits) (move .out) (pairBytes p) (length (pairBytes p)) refl) in
+    let checks : checkOf limits sheet ≡ accepted p = ap (checkOf limits) is ∙ two .checks in
+    let f = order-faultless limits s o (two .order) in
+    let k = split-is s a b o (two .order) (two .bytes) split in
+    let old-gate : passes q a ≡ allows q (o .gate) = ap (passes q) (k .gate) ∙ passes-list (limits .gate) q (o .gate) (omega arith) (f .0) in
+    let old-cell : passes q b ≡ allows q (o .own) = ap (passes q) (k .own) ∙ passes-list (limits .own) q (o .own) (omega arith) (f .1) in
+    let new-gate : passes q gate ≡ allows q (gateList p) = ap (passes q) (listed-is gateBytes gateListSize sheet gate p checks g) ∙ passes-list (limits .total) q (gateList p) (omega arith) (list-faultless (limits .total) (gateBytes p) (gateList p) (two .gate)) in
+    let new-cell : passes q cell ≡ allows q (cellList p) = ap (passes q) (listed-is cellBytes cellListSize sheet cell p checks c) ∙ passes-list (limits .total) q (cellList p) (omega arith) (list-faultless (limits .total) (cellBytes p) (cellList p) (two .cell)) in
+    record {
+      both = rw (old-gate, old-cell, new-gate, new-cell) (two .forwarded q);
+      cell-first = rw (old-gate, old-cell, new-cell) (two .cell-first q);
+    }
