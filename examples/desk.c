@@ -4,7 +4,7 @@
 
 #include "foldplover.h"
 
-static uint8_t order[FOLDPLOVER_ORDER_SHEET + 1]; /* a byte more than the largest: a longer file is refused with 3 */
+static uint8_t order[FOLDPLOVER_ORDER_SHEET + 1]; /* a byte more than the largest: a longer file is refused */
 static uint8_t sheet[FOLDPLOVER_PAIR_SHEET];
 static uint8_t gate[FOLDPLOVER_GATE_LIST];
 static uint8_t cell[FOLDPLOVER_CELL_LIST];

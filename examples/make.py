@@ -82,7 +82,7 @@ def order_sheet(path, text):
     for place, line in enumerate(text.splitlines(), 1):
         words = line.split("#")[0].split()
         try:
-            if words and words[0] in sections:
+            if len(words) == 1 and words[0] in sections:
                 current = sections[words[0]]
             elif words and current is None:
                 raise Fault("a rule before the line gate or cell")
@@ -94,10 +94,12 @@ def order_sheet(path, text):
 
 
 def main():
+    sheets = {}
     for path in sys.argv[1:]:
         with open(path, encoding="utf-8") as text:
-            sheet = order_sheet(path, text.read())
-        with open(path.removesuffix(".txt") + ".order", "wb") as order:
+            sheets[path.removesuffix(".txt") + ".order"] = order_sheet(path, text.read())
+    for path, sheet in sheets.items():
+        with open(path, "wb") as order:
             order.write(sheet)
 
 

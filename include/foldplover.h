@@ -174,7 +174,8 @@ uint32_t foldplover_gate_list(const uint8_t *sheet, size_t sheet_len,
  * none. A number above its field's highest is in no rule.
  *
  * Answers 2 x place + action. Writes nothing. The list need not be complete, and no record behind
- * the rule found is looked at.
+ * the rule found is looked at. A filter lets the packet through only where the answer is below
+ * FOLDPLOVER_REFUSED and odd, and drops it at any refusal: some refusals are odd numbers too.
  * Refuses in this order: 3 (count missing); 2 (count not 1 to 1,024); 3 (length not exactly that of
  * the records); then from rule to rule 4 (a bad one before any that has the packet); 5 (none has).
  */

@@ -12,11 +12,24 @@ tests/x86 run target/surface
 tests/x86 g++ -std=c++17 $flags -o target/surface++ -x c++ tests/c/surface.c -x none $library
 tests/x86 run target/surface++
 
+# The desk example: what it prints, its status, the lengths of both lists, and the gate list's bytes; a refused sheet writes none.
 tests/x86 gcc -std=c11 $flags -o target/desk examples/desk.c $library
-for name in dairy plant refused; do
-    tests/x86 run target/desk examples/$name.order target/$name.gate target/$name.cell || true
-done >target/desk.txt
-printf 'gate 29 bytes, cell 137 bytes\ngate 29 bytes, cell 9425 bytes\nrefused 6\n' | cmp - target/desk.txt
+rm -f target/*.gate target/*.cell
+desk() {
+    status=0
+    tests/x86 run target/desk "examples/$1.order" "target/$1.gate" "target/$1.cell" >target/desk.txt || status=$?
+    echo "$2" | cmp - target/desk.txt
+    [ "$status" = "$3" ]
+}
+desk dairy 'gate 29 bytes, cell 137 bytes' 0
+desk plant 'gate 29 bytes, cell 9425 bytes' 0
+desk refused 'refused 6' 1
+for name in dairy:137 plant:9425; do
+    printf '\0\1\0\0\0\0\377\377\377\377\0\0\0\0\377\377\377\377\0\0\377\377\0\0\377\377\0\377\1' | cmp - "target/${name%:*}.gate"
+    [ "$(wc -c <"target/${name%:*}.cell")" = "${name#*:}" ]
+done
+[ ! -e target/refused.gate ]
+[ ! -e target/refused.cell ]
 
 tests/x86 rustc -O --edition 2021 --cfg library -L native=target/staticlib -o target/drive tests/second/main.rs
 # 20,000 cases, in two halves at a time. Each half's report has to end with the words that every answer was met in it.

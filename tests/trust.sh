@@ -10,10 +10,10 @@ fault() {
     faults=1
 }
 
-theorems=$(grep -hoE '^((abbrev|unfoldable) )?pub (record )?[A-Za-z]*Theorem ' crates/*/specs/*.antt | grep -oE '[A-Za-z]*Theorem')
+theorems=$(grep -hoE '^((abbrev|unfoldable) )?pub ((record|data) )?[A-Za-z0-9]*Theorem ' crates/*/specs/*.antt | grep -oE '[A-Za-z0-9]*Theorem')
 [ -n "$theorems" ] || fault 'no theorem in specs/'
 for theorem in $theorems; do
-    values=$(find crates/*/proofs -name '*.antt' -exec grep -hE "^ *pub [a-z-]+ : $theorem\$" {} + | wc -l)
+    values=$(find crates/*/proofs -name '*.antt' -exec grep -hE "^ *pub [A-Za-z0-9-]+ : $theorem\$" {} + | wc -l)
     [ "$values" = 1 ] || fault "$theorem has $values values in proofs/"
     grep -q "\`$theorem\`" docs/TRUST.md || fault "$theorem is not named"
 done

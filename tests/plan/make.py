@@ -28,7 +28,7 @@ def changed(sheet, place, value):
 
 
 def order(gate, cell):
-    return make.order_sheet("\n".join(["gate", *gate, "cell", *cell]))
+    return make.order_sheet("plan_cases", "\n".join(["gate", *gate, "cell", *cell]))
 
 
 dairy = example("dairy")

@@ -12,7 +12,7 @@ use Rattle.policy.specs.Fields.{limits}
 use Rattle.policy.specs.Move.{Slot, boxesOf, together, anyOver, groupsOf}
 use Rattle.sheet.specs.Pairs.{groupsBytes}
 use Rattle.sheet.proofs.Pairs.{ProperGroup}
-use Rattle.draft.specs.Steps.{Told, Drafting, draftSize, Told, Behind}
+use Rattle.draft.specs.Steps.{Begins, Told, Drafting, draftSize}
 use Rattle.draft.specs.declared.Drafted.{Drafted}
 use Rattle.draft.specs.declared.Drafted.the-variants.{Groups, TooManyPieces}
 use Rattle.draft.proofs.Laid.{groups-length}
@@ -45,6 +45,10 @@ module _ {l : List Slot} {draft draft′ : List ℕ} {front : ℕ} where
           let g : List ℕ = groupsBytes (groupsOf l) in
           let z : 0 + length g ≡ length g = omega arith in
           rw (e .1, sets-eq g draft 0 (omega (arith, drawn-end)), e .0) (take-at g (drop (0 + length g) draft) (0 + length g) (sym z))
+
+-- What drafting says of slots behind groups of so many boxes, whose bytes then begin a buffer.
+pub record Behind (l : List Slot) (boxes : ℕ) (r : Drafted) (s : List ℕ) : Type 0 where
+  pub told : Told limits l boxes (Begins s (groupsBytes (groupsOf l))) r
 
 -- all of it, once the groups are known to be proper
 pub drawn-behind : {l : List Slot} {draft draft′ : List ℕ} {front : ℕ} (r : Drafted) → Drafting limits l draft 0 front r draft′ → length draft′ ≡ length draft

@@ -110,10 +110,6 @@ pub record Placed (v : Around) (gate : ℕ) : Type 0 where
   pub later : v .later ≤ v .groups
   pub fits : v .to + v .groups ≤ limits .gate + v .later
 
--- The same of slots behind groups of so many boxes, whose bytes then begin a buffer.
-pub record Behind (l : List Slot) (boxes : ℕ) (r : Drafted) (s : List ℕ) : Type 0 where
-  pub told : Told limits l boxes (Begins s (groupsBytes (groupsOf l))) r
-
 -- So many groups lie one behind another in these bytes, and nothing else does.
 unfoldable pub Laid : ℕ → List ℕ → Type 0
 Laid zero s = length s ≡ 0

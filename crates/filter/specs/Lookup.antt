@@ -4,15 +4,14 @@ use mathlib.Core.List.{List, [], _∷_}
 use mathlib.Core.Bool.{cond}
 use Prim.Native.Nat.{ℕ, suc, _+_, _*_, _^_, _≤_, _<_}
 use lib.Dec.{leb, eqb}
-use lib.ListN.{length, drop}
+use lib.ListN.{length}
 use Rattle.policy.specs.Fields.{countSize}
 use Rattle.policy.specs.Ranges.{Packet, inside}
 use Rattle.policy.specs.Rules.{Rule, sound, Found, found, nothing, first}
 use Rattle.policy.specs.Refusals.{refusalBase, Outcome, accepted, refused, test, faults, numberOf}
 use Rattle.filter.specs.declared.Verdict.{Verdict}
 use Rattle.filter.specs.declared.Verdict.the-variants.{Decided, Refused}
-use Rattle.wire.specs.Records.{rulesIn}
-use Rattle.wire.specs.Lists.{countIn, listSize, listBytes}
+use Rattle.wire.specs.Lists.{countIn, listRules, listSize, listBytes}
 
 -- The rule that decides: its place, from 0, and its action.
 pub record Hit : Type 0 where
@@ -40,7 +39,7 @@ lookup most p s =
     (test (leb 1 (countIn s)) 2
     (test (leb (countIn s) most) 2
     (test (eqb (length s) (listSize (countIn s))) 3
-    (lookFrom 0 p (rulesIn (countIn s) (drop countSize s))))))
+    (lookFrom 0 p (listRules s)))))
 
 -- For C one number: twice the place and the action, or 65,536 and the refusal.
 unfoldable pub lookupNumber : Outcome Hit → ℕ

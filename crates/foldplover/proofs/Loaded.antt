@@ -1,48 +1,59 @@
 -- What is loaded forwards what was forwarded, by the firmware's own lookup: from the calls' statements. Assumes nothing.
 use mathlib.Core.Path.{_≡_, refl, ap, sym, _∙_}
 use mathlib.Core.List.{List}
-use mathlib.Core.Bool.{Bool}
-use Prim.Native.Nat.{ℕ, _+_, _-_, _≤_}
+use mathlib.Core.Bool.{Bool, true}
+use Prim.Native.Nat.{ℕ, _+_, _-_, _*_, _%_, _≤_, _<_}
 use native.Mathlib.Omega.{arith}
+use lib.Dec.{ltb}
 use lib.ListN.{length, take, length-append}
+use borrow.Author.Tests.{lt-ltb}
 use Rattle.policy.specs.Fields.{limits}
 use Rattle.policy.specs.Ranges.{Packet}
 use Rattle.policy.specs.Rules.{Rule, Found, found, nothing, saysAllow, first, allows}
-use Rattle.policy.specs.Refusals.{accepted}
+use Rattle.policy.specs.Refusals.{refusalBase, Outcome, accepted}
 use Rattle.policy.specs.Move.{Order, Pair, gateList, cellList}
 use Rattle.policy.proofs.Refused.{listRefusal}
 use Rattle.policy.proofs.Edits.{list-accepted}
 use Rattle.wire.specs.Lists.{listBytes}
-use Rattle.filter.specs.Lookup.{decidedBy}
-use Rattle.filter.proofs.Lists.{lookup-first}
+use Rattle.filter.specs.Lookup.{Hit, hit, lookupNumber, decidedBy}
+use Rattle.filter.proofs.Lists.{look-first, lookup-first}
+use Rattle.filter.proofs.Verdicts.{look-small}
 use Rattle.wire.specs.Buffers.{filled}
 use Rattle.sheet.specs.Orders.{orderIn, orderBytes, gateSize, ownSize}
 use Rattle.sheet.specs.Pairs.{pairBytes, pairSize}
 use Rattle.sheet.proofs.Outcomes.{faultless}
 use Rattle.sheet.proofs.Orders.{list-faultless, order-faultless}
 use Rattle.orders.proofs.Undo.{split-accepted, content-front}
-use Rattle.planner.specs.Calls.{bothLent, checkOf, gateBytes, gateListSize, cellBytes, cellListSize}
+use Rattle.planner.specs.Calls.{bothLent, checkOf, Lists, gateBytes, gateListSize, cellBytes, cellListSize}
 use Rattle.planner.proofs.Calls.{call-accepted, call-content}
 use Rattle.planner.proofs.Theorems.{move-call-holds}
-use Rattle.foldplover.specs.Loaded.{allowed, passes, Listed, SplitInto, LoadedTheorem}
+use Rattle.foldplover.specs.Loaded.{letsThrough, passes, Wrote, SplitInto, LoadedTheorem}
 
-decided-allowed : (x : Found) → allowed (decidedBy x) ≡ saysAllow x
-decided-allowed (found n a) = refl
-decided-allowed nothing = refl
+-- the number that a lookup gives for C tells whether the rule that decides is an allow
+number-allows : (most : ℕ) (x : Found) → 2 * most ≤ refusalBase → ((n a : ℕ) → x ≡ found n a → (n < most) × (a ≤ 1)) → letsThrough (lookupNumber (decidedBy x)) ≡ saysAllow x
+unfolding lookupNumber
+number-allows most (found n a) h small =
+    let s = small n a refl in
+    let below : ltb (2 * n + a) refusalBase ≡ true = lt-ltb (2 * n + a) refusalBase (omega arith) in
+    let odd : (2 * n + a) % 2 ≡ a = omega arith in
+    rw (below, odd) refl
+number-allows most nothing h small = refl
 
 -- in the bytes of a list without fault a filter lets through what the list allows
 passes-list : (most : ℕ) (q : Packet) (l : List Rule) → most ≤ limits .total → listRefusal most l ≡ 0 → passes q (listBytes l) ≡ allows q l
 passes-list most q l h e =
     let f = faultless most l e in
-    ap allowed (lookup-first (limits .total) q l (list-accepted most l e .0) (f .few) (omega (arith, f .many)) (omega arith)) ∙ decided-allowed (first q l)
+    let clean = list-accepted most l e .0 in
+    ap (λ (x : Outcome Hit). letsThrough (lookupNumber x)) (lookup-first (limits .total) q l clean (f .few) (omega (arith, f .many)) (omega arith))
+    ∙ number-allows most (first q l) (omega arith) (λ n a i. let s = look-small 0 q l (hit n a) (look-first 0 q l clean ∙ ap decidedBy i) in (omega (arith, f .many), s .1))
 
 -- what an accepted list call of a sheet that check accepts as p wrote
-listed-is : (bytes : Pair → List ℕ) (size : ℕ) (sheet list : List ℕ) (p : Pair) → checkOf limits sheet ≡ accepted p → Listed bytes size sheet list → list ≡ bytes p
+listed-is : (bytes : Pair → List ℕ) (size : ℕ) (sheet list : List ℕ) (p : Pair) → checkOf limits sheet ≡ accepted p → Wrote (Lists bytes size sheet) list → list ≡ bytes p
 listed-is bytes size sheet list p e x =
     let lent : Bool = bothLent size (x .out) (x .work) in
     let c = call-accepted bytes size lent (checkOf limits sheet) (x .call) in
     let same : c .value ≡ p = cc (c .is, e) in
-    sym (x .content) ∙ (call-content bytes size lent (checkOf limits sheet) (x .call) ∙ ap bytes same)
+    sym (x .is) ∙ (call-content bytes size lent (checkOf limits sheet) (x .call) ∙ ap bytes same)
 
 -- what an accepted split call wrote of a sheet that reads as o
 record SplitIs (a b : List ℕ) (o : Order) : Type 0 where
@@ -71,7 +82,7 @@ loaded-forwards s sheet a b gate cell bytes split move g c q =
     let p : Pair = d .1 in
     let two = d .2 in
     let is : sheet ≡ pairBytes p =
-    sym (move .content) ∙ ((λ i. take (d .3 i .used) (d .3 i .buffer)) ∙ content-front (pairSize limits) (move .out) (pairBytes p) (length (pairBytes p)) refl) in
+    sym (move .is) ∙ ((λ i. take (d .3 i .used) (d .3 i .buffer)) ∙ content-front (pairSize limits) (move .out) (pairBytes p) (length (pairBytes p)) refl) in
     let checks : checkOf limits sheet ≡ accepted p = ap (checkOf limits) is ∙ two .checks in
     let f = order-faultless limits s o (two .order) in
     let k = split-is s a b o (two .order) (two .bytes) split in

@@ -31,11 +31,11 @@ use Rattle.sheet.specs.Steps.{rulesOf, listsOf, groupsFrom, boxCount}
 use Rattle.sheet.proofs.Outcomes.{faultless}
 use Rattle.sheet.proofs.Pairs.{ProperGroup, PairGood, denies-most}
 use Rattle.sheet.proofs.Accepted.{OrderAccepted, order-accepted}
-use Rattle.draft.specs.Steps.{stretch, draftSize, Ready, DraftedGroups, partOf, sheetOf, orderOf, groupsAt, sheetAround, AroundPut, runSize, GroupsHeld, keptSlots, slotsBehind, slotsAround, Told, Behind}
+use Rattle.draft.specs.Steps.{stretch, draftSize, Ready, DraftedGroups, partOf, sheetOf, orderOf, groupsAt, sheetAround, AroundPut, runSize, GroupsHeld, keptSlots, slotsBehind, slotsAround, Told}
+use Rattle.draft.proofs.Drawn.{Behind, drawn-behind}
 use Rattle.draft.specs.declared.kept.Standing.{Standing}
 use Rattle.draft.specs.declared.Drafted.{Drafted}
 use Rattle.draft.specs.declared.Drafted.the-variants as D
-use Rattle.draft.proofs.Drawn.{drawn-behind}
 use Rattle.draft.proofs.Drafts.{rules-front, rules-sound-front}
 use Rattle.planner.proofs.Good.{rest-proper, pair-short}
 use Rattle.planner.specs.Steps.{Writes, slotted, Finishing, Finishes, AllAnew}

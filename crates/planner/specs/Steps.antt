@@ -1,12 +1,12 @@
 -- What a call's inner part answers and leaves, once everything lent is long enough. Assumes nothing.
 use mathlib.Core.Path.{_≡_}
-use mathlib.Core.List.{List, map}
+use mathlib.Core.List.{List}
 use Prim.Native.Nat.{ℕ, _+_, _*_, _≤_}
 use lib.ListN.{length, drop}
 use Rattle.policy.specs.Fields.{countSize, recordSize, limits, workSize}
 use Rattle.policy.specs.Rules.{denies}
 use Rattle.policy.specs.Refusals.{Outcome, unless, said}
-use Rattle.policy.specs.Move.{Slot, boxesOf, room, Order, Pair}
+use Rattle.policy.specs.Move.{Slot, groupsOf, room, Order, Pair}
 use Rattle.policy.specs.declared.Answer.{Answer}
 use Rattle.sheet.specs.Pairs.{pairBytes, pairSize}
 use Rattle.sheet.specs.Steps.{rulesOf, listsOf, OrderRead}
@@ -30,7 +30,7 @@ Planned s out w r out′ w′ = Writes pairBytes (pairSize limits) (moveOf limit
 
 -- The pair of new lists and slots: 6 and 7, or accepted.
 unfoldable pub slotted : Order → List Slot → Outcome Pair
-slotted o l = unless (room limits o l) (record { order = o; groups = map boxesOf l })
+slotted o l = unless (room limits o l) (record { order = o; groups = groupsOf l })
 
 -- What the last step asks for: the new order sheet reads well, its A is in the bytes that are written, the old groups stand in the
 -- sheet, and all that stands there is one record at most from where it goes.

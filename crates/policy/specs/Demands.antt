@@ -13,7 +13,7 @@ use Rattle.policy.specs.Refusals.{faults}
 use Rattle.policy.specs.Move.{Pair}
 use Rattle.policy.specs.Edit.{Kind, out, put, gone}
 
--- 01, The five fields: in a list without a bad rule, a packet that has a value above its field's highest meets no rule.
+-- 01, The five fields: in a list without a bad rule, a packet outside the limits of some field finds no rule that has it.
 abbrev pub AboveTheorem : Type 0
 AboveTheorem = (p : Packet) (l : List Rule) → faults l ≡ 0 → inLimits p ≡ false → first p l ≡ nothing
 

@@ -14,7 +14,8 @@ use Rattle.lists.proofs.Lists.{map-append}
 use Rattle.wire.specs.Numbers.{Byte}
 use Rattle.sheet.specs.Pairs.{groupsBytes, groupBytes}
 use Rattle.sheet.specs.Steps.{groupsFrom, boxCount}
-use Rattle.draft.specs.Steps.{stretch, runSize, GroupsHeld, keptSlots, slotsBehind, Told, Begins, Behind, partOf, orderOf, groupsAt}
+use Rattle.draft.specs.Steps.{stretch, runSize, GroupsHeld, keptSlots, slotsBehind, Told, Begins, partOf, orderOf, groupsAt}
+use Rattle.draft.proofs.Drawn.{Behind}
 use Rattle.draft.specs.declared.Drafted.{Drafted}
 use Rattle.draft.specs.declared.Drafted.the-variants.{Groups, TooManyPieces}
 use Rattle.draft.specs.declared.Around.{Around}

@@ -39,7 +39,7 @@ fn join(work: &mut [u8], n: usize, back: &[u8]) -> usize
     wire::put_bytes(work, COUNT_BYTES + size, back)
 }
 
-// At the front of the work buffer the group of the rule at the place, if there is one that denies, and these bytes of kept groups
+// At the front of the work buffer the group of what stands at the place, if that is a deny, and these bytes of kept groups
 // behind it; how many boxes there then are with those of all that is kept, and where the bytes end; or number 6.
 fn gather(
     rules: &[u8],

@@ -16,9 +16,9 @@ use Rattle.policy.specs.Refusals.{Outcome, accepted, refused, test, andThen}
 use Rattle.policy.specs.Move.{Order, Pair}
 use Rattle.wire.specs.Numbers.{numberIn}
 use Rattle.wire.specs.Records.{rulesIn, boxesIn}
-use Rattle.wire.specs.Lists.{countIn, listSize}
+use Rattle.wire.specs.Lists.{countIn, listSize, listRules}
 use Rattle.wire.proofs.Records.{boxesIn-length, boxes-front, rules-front}
-use Rattle.sheet.specs.Sections.{Reading, reading, section, sectionRules}
+use Rattle.sheet.specs.Sections.{Reading, reading, section}
 use Rattle.sheet.specs.Orders.{ended, order, listsIn}
 use Rattle.sheet.specs.Pairs.{groupSize, groupBoxes, behind, groupsIn, groupSection, pairIn}
 use Rattle.sheet.proofs.Prefixes.{Reader, Steady, grab, say, next, grab-steady, say-steady, next-steady, same-steady, whole, whole-next, then-same, other-length, block, block-steady, block-is}
@@ -54,15 +54,15 @@ module _ (most : ℕ) where
       found false u l = refl
 
       fits : (t : Bool) → leb (listSize (countIn s)) (length s) ≡ t
-          → test t 3 (test (every sound (sectionRules s)) 4 (test (complete (sectionRules s)) 5 (accepted (reading (sectionRules s) left))))
+          → test t 3 (test (every sound (listRules s)) 4 (test (complete (listRules s)) 5 (accepted (reading (listRules s) left))))
           ≡ test t 3 (andThen (sectionItems (countIn s) (take (recordSize * countIn s) (drop countSize s))) (λ v. accepted (reading v left)))
       fits true e =
           rw (alone rulesIn recordSize (countIn s) s rules-front (leb-true (listSize (countIn s)) (length s) e))
-          (found (every sound (sectionRules s)) (complete (sectionRules s)) (sectionRules s))
+          (found (every sound (listRules s)) (complete (listRules s)) (listRules s))
       fits false e = refl
 
       go : (t u v : Bool)
-          → test t 3 (test u 2 (test v 2 (test (leb (listSize (countIn s)) (length s)) 3 (test (every sound (sectionRules s)) 4 (test (complete (sectionRules s)) 5 (accepted (reading (sectionRules s) left)))))))
+          → test t 3 (test u 2 (test v 2 (test (leb (listSize (countIn s)) (length s)) 3 (test (every sound (listRules s)) 4 (test (complete (listRules s)) 5 (accepted (reading (listRules s) left)))))))
           ≡ test t 3 (andThen (test u 2 (test v 2 (accepted (countIn s)))) (λ n. test (leb (countSize + recordSize * n) (length s)) 3
           (andThen (sectionItems n (take (recordSize * n) (drop countSize s))) (λ w. accepted (reading w (drop (countSize + recordSize * n) s))))))
       go true true true = fits (leb (listSize (countIn s)) (length s)) refl

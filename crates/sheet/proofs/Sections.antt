@@ -14,12 +14,12 @@ use Rattle.policy.proofs.Refused.{listRefusal}
 use Rattle.wire.specs.Numbers.{Byte}
 use Rattle.wire.specs.Records.{recordsBytes, rulesIn}
 use Rattle.wire.proofs.Records.{RuleFits, rulesIn-length, recordsBytes-length, rules-back}
-use Rattle.sheet.specs.Sections.{Reading, reading, sectionRules, section}
+use Rattle.sheet.specs.Sections.{Reading, reading, section}
+use Rattle.wire.specs.Lists.{listRules, countIn, listSize, listBytes}
 use Rattle.wire.proofs.Counts.{counted}
 use Rattle.wire.proofs.Lists.{list-front}
 use Rattle.sheet.proofs.Outcomes.{list-outcome}
 use Rattle.policy.proofs.Answers.{test-accepted, unless-accepted}
-use Rattle.wire.specs.Lists.{countIn, listSize, listBytes}
 
 -- What an accepted section is.
 pub record SectionGood (most : ℕ) (s : List ℕ) (r : Reading (List Rule)) : Type 0 where
@@ -36,16 +36,16 @@ section-good most s r e =
     let b = test-accepted (leb 1 (countIn s)) 2 _ (a .1) in
     let c = test-accepted (leb (countIn s) most) 2 _ (b .1) in
     let d = test-accepted (leb (listSize (countIn s)) (length s)) 3 _ (c .1) in
-    let f = test-accepted (every sound (sectionRules s)) 4 _ (d .1) in
-    let g = test-accepted (complete (sectionRules s)) 5 _ (f .1) in
-    let p : reading (sectionRules s) (drop (listSize (countIn s)) s) ≡ r = cc (g .1) in
-    let v : sectionRules s ≡ r .value = λ i. p i .value in
+    let f = test-accepted (every sound (listRules s)) 4 _ (d .1) in
+    let g = test-accepted (complete (listRules s)) 5 _ (f .1) in
+    let p : reading (listRules s) (drop (listSize (countIn s)) s) ≡ r = cc (g .1) in
+    let v : listRules s ≡ r .value = λ i. p i .value in
     let l : countIn s ≡ length (r .value) = sym (rulesIn-length (countIn s) (drop countSize s)) ∙ ap length v in
-    let m : length (sectionRules s) ≡ countIn s = rulesIn-length (countIn s) (drop countSize s) in
+    let m : length (listRules s) ≡ countIn s = rulesIn-length (countIn s) (drop countSize s) in
     record {
       list =
           ap (listRefusal most) (sym v)
-          ∙ unless-accepted (listRefusal most (sectionRules s)) {a = r} (sym (list-outcome most (sectionRules s) r) ∙ rw (m, b .0, c .0, f .0, g .0) refl) .0;
+          ∙ unless-accepted (listRefusal most (listRules s)) {a = r} (sym (list-outcome most (listRules s) r) ∙ rw (m, b .0, c .0, f .0, g .0) refl) .0;
       count = l;
       there = omega (arith, leb-true (listSize (countIn s)) (length s) (d .0));
       rules = sym v ∙ ap (λ (n : ℕ). rulesIn n (drop countSize s)) l;

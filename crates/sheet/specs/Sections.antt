@@ -8,8 +8,7 @@ use Rattle.lists.specs.Lists.{every}
 use Rattle.policy.specs.Fields.{countSize}
 use Rattle.policy.specs.Rules.{Rule, sound, complete}
 use Rattle.policy.specs.Refusals.{Outcome, accepted, test}
-use Rattle.wire.specs.Records.{rulesIn}
-use Rattle.wire.specs.Lists.{countIn, listSize}
+use Rattle.wire.specs.Lists.{countIn, listRules, listSize}
 
 -- What was read, and the bytes behind it.
 pub record Reading (A : Type 0) : Type 0 where
@@ -19,10 +18,6 @@ pub record Reading (A : Type 0) : Type 0 where
 abbrev pub reading : {A : Type 0} → A → List ℕ → Reading A
 reading v t = record { value = v; rest = t }
 
--- The rules of the section at the front of the bytes.
-abbrev pub sectionRules : List ℕ → List Rule
-sectionRules s = rulesIn (countIn s) (drop countSize s)
-
 -- The first fault decides: no count (3), a count outside its limits (2), too few bytes for so many records (3), a record that
 -- is no rule (4), a last one that is not full (5).
 unfoldable pub section : ℕ → List ℕ → Outcome (Reading (List Rule))
@@ -31,6 +26,6 @@ section most s =
     (test (leb 1 (countIn s)) 2
     (test (leb (countIn s) most) 2
     (test (leb (listSize (countIn s)) (length s)) 3
-    (test (every sound (sectionRules s)) 4
-    (test (complete (sectionRules s)) 5
-    (accepted (reading (sectionRules s) (drop (listSize (countIn s)) s))))))))
+    (test (every sound (listRules s)) 4
+    (test (complete (listRules s)) 5
+    (accepted (reading (listRules s) (drop (listSize (countIn s)) s))))))))

@@ -10,7 +10,8 @@ use Rattle.lists.proofs.Parts.{tail-whole}
 use Rattle.policy.specs.Fields.{countSize}
 use Rattle.wire.specs.Numbers.{Byte}
 use Rattle.wire.proofs.Numbers.{bytes-all}
-use Rattle.draft.specs.Steps.{runSize, slotsBehind, Behind, partOf, orderOf, groupsAt}
+use Rattle.draft.specs.Steps.{runSize, slotsBehind, partOf, orderOf, groupsAt}
+use Rattle.draft.proofs.Drawn.{Behind}
 use Rattle.sheet.specs.Steps.{boxCount}
 use Rattle.draft.specs.declared.Drafted.{Drafted}
 use Rattle.draft.specs.declared.Drafted.the-variants.{Groups}
