@@ -5,7 +5,7 @@ use mathlib.Core.Bool.{Bool, true}
 use Prim.Native.Nat.{ℕ, _+_, _-_, _*_, _%_, _≤_, _<_}
 use native.Mathlib.Omega.{arith}
 use lib.Dec.{ltb}
-use lib.ListN.{length, take, length-append}
+use lib.ListN.{length, take}
 use borrow.Author.Tests.{lt-ltb}
 use Rattle.policy.specs.Fields.{limits}
 use Rattle.policy.specs.Ranges.{Packet}
@@ -18,16 +18,15 @@ use Rattle.wire.specs.Lists.{listBytes}
 use Rattle.filter.specs.Lookup.{Hit, hit, lookupNumber, decidedBy}
 use Rattle.filter.proofs.Lists.{look-first, lookup-first}
 use Rattle.filter.proofs.Verdicts.{look-small}
-use Rattle.wire.specs.Buffers.{filled}
-use Rattle.sheet.specs.Orders.{orderIn, orderBytes, gateSize, ownSize}
 use Rattle.sheet.specs.Pairs.{pairBytes, pairSize}
 use Rattle.sheet.proofs.Outcomes.{faultless}
 use Rattle.sheet.proofs.Orders.{list-faultless, order-faultless}
-use Rattle.orders.proofs.Undo.{split-accepted, content-front}
+use Rattle.orders.proofs.Undo.{split-wrote}
+use Rattle.wire.proofs.Buffers.{filled-content}
 use Rattle.planner.specs.Calls.{bothLent, checkOf, Lists, gateBytes, gateListSize, cellBytes, cellListSize}
 use Rattle.planner.proofs.Calls.{call-accepted, call-content}
 use Rattle.planner.proofs.Theorems.{move-call-holds}
-use Rattle.foldplover.specs.Loaded.{letsThrough, passes, Wrote, SplitInto, LoadedTheorem}
+use Rattle.foldplover.specs.Loaded.{letsThrough, passes, Wrote, LoadedTheorem}
 
 -- the number that a lookup gives for C tells whether the rule that decides is an allow
 number-allows : (most : ℕ) (x : Found) → 2 * most ≤ refusalBase → ((n a : ℕ) → x ≡ found n a → (n < most) × (a ≤ 1)) → letsThrough (lookupNumber (decidedBy x)) ≡ saysAllow x
@@ -55,25 +54,6 @@ listed-is bytes size sheet list p e x =
     let same : c .value ≡ p = cc (c .is, e) in
     sym (x .is) ∙ (call-content bytes size lent (checkOf limits sheet) (x .call) ∙ ap bytes same)
 
--- what an accepted split call wrote of a sheet that reads as o
-record SplitIs (a b : List ℕ) (o : Order) : Type 0 where
-  pub gate : a ≡ listBytes (o .gate)
-  pub own : b ≡ listBytes (o .own)
-
-split-is : (s a b : List ℕ) (o : Order) → orderIn limits s ≡ accepted o → orderBytes o ≡ s → SplitInto s a b → SplitIs a b o
-unfolding orderBytes
-split-is s a b o e bytes x =
-    let c = split-accepted (x .call) in
-    let same : c .lists ≡ o = cc (c .reads, e) in
-    let n : x .answer ≡ length (listBytes (o .gate)) = c .answer ∙ ap (λ (y : Order). length (listBytes (y .gate))) same in
-    let l : length s ≡ length (listBytes (o .gate)) + length (listBytes (o .own)) = ap length (sym bytes) ∙ length-append (listBytes (o .gate)) (listBytes (o .own)) in
-    let first : x .leftA ≡ filled (gateSize limits) (x .outA) (listBytes (o .gate)) = c .gate ∙ ap (λ (y : Order). filled (gateSize limits) (x .outA) (listBytes (y .gate))) same in
-    let second : x .leftB ≡ filled (ownSize limits) (x .outB) (listBytes (o .own)) = c .own ∙ ap (λ (y : Order). filled (ownSize limits) (x .outB) (listBytes (y .own))) same in
-    record {
-      gate = sym (x .contentA) ∙ (ap (take (x .answer)) first ∙ content-front (gateSize limits) (x .outA) (listBytes (o .gate)) (x .answer) n);
-      own = sym (x .contentB) ∙ (ap (take (length s - x .answer)) second ∙ content-front (ownSize limits) (x .outB) (listBytes (o .own)) (length s - x .answer) (omega arith));
-    }
-
 pub loaded-forwards : LoadedTheorem
 unfolding gateBytes cellBytes
 loaded-forwards s sheet a b gate cell bytes split move g c q =
@@ -82,12 +62,15 @@ loaded-forwards s sheet a b gate cell bytes split move g c q =
     let p : Pair = d .1 in
     let two = d .2 in
     let is : sheet ≡ pairBytes p =
-    sym (move .is) ∙ ((λ i. take (d .3 i .used) (d .3 i .buffer)) ∙ content-front (pairSize limits) (move .out) (pairBytes p) (length (pairBytes p)) refl) in
+    sym (move .is) ∙ ((λ i. take (d .3 i .used) (d .3 i .buffer)) ∙ filled-content (pairSize limits) (move .out) (pairBytes p) (length (pairBytes p)) refl) in
     let checks : checkOf limits sheet ≡ accepted p = ap (checkOf limits) is ∙ two .checks in
     let f = order-faultless limits s o (two .order) in
-    let k = split-is s a b o (two .order) (two .bytes) split in
-    let old-gate : passes q a ≡ allows q (o .gate) = ap (passes q) (k .gate) ∙ passes-list (limits .gate) q (o .gate) (omega arith) (f .0) in
-    let old-cell : passes q b ≡ allows q (o .own) = ap (passes q) (k .own) ∙ passes-list (limits .own) q (o .own) (omega arith) (f .1) in
+    let k = split-wrote bytes (split .call) in
+    let same : k .lists ≡ o = cc (k .reads, two .order) in
+    let a-is : a ≡ listBytes (o .gate) = sym (split .contentA) ∙ (k .gate ∙ ap (λ (y : Order). listBytes (y .gate)) same) in
+    let b-is : b ≡ listBytes (o .own) = sym (split .contentB) ∙ (k .own ∙ ap (λ (y : Order). listBytes (y .own)) same) in
+    let old-gate : passes q a ≡ allows q (o .gate) = ap (passes q) a-is ∙ passes-list (limits .gate) q (o .gate) (omega arith) (f .0) in
+    let old-cell : passes q b ≡ allows q (o .own) = ap (passes q) b-is ∙ passes-list (limits .own) q (o .own) (omega arith) (f .1) in
     let new-gate : passes q gate ≡ allows q (gateList p) = ap (passes q) (listed-is gateBytes gateListSize sheet gate p checks g) ∙ passes-list (limits .total) q (gateList p) (omega arith) (list-faultless (limits .total) (gateBytes p) (gateList p) (two .gate)) in
     let new-cell : passes q cell ≡ allows q (cellList p) = ap (passes q) (listed-is cellBytes cellListSize sheet cell p checks c) ∙ passes-list (limits .total) q (cellList p) (omega arith) (list-faultless (limits .total) (cellBytes p) (cellList p) (two .cell)) in
     record {

@@ -1,11 +1,10 @@
 -- Split and join undo each other. Assumes nothing.
-use mathlib.Core.Path.{_≡_, refl, ap, sym, _∙_}
+use mathlib.Core.Path.{_≡_, refl, ap, _∙_}
 use mathlib.Core.List.{List, _++_}
 use Prim.Native.Nat.{ℕ, _-_, _≤_}
 use native.Mathlib.Omega.{arith}
 use lib.Dec.{leb}
-use lib.ListN.{length, take, drop, replicate, length-append}
-use lib.Seq.{take-at}
+use lib.ListN.{length, take, length-append}
 use borrow.Author.Tests.{le-leb}
 use Rattle.lists.specs.Lists.{Each}
 use Rattle.policy.specs.Fields.{limits}
@@ -16,6 +15,7 @@ use Rattle.policy.specs.declared.Answer.the-variants.{Length}
 use Rattle.policy.proofs.Answers.{said-once, test-accepted}
 use Rattle.wire.specs.Numbers.{Byte}
 use Rattle.wire.specs.Buffers.{roomFor, filled, written, lengthOf}
+use Rattle.wire.proofs.Buffers.{filled-content}
 use Rattle.sheet.specs.Orders.{order, orderIn, orderBytes, listIn, gateSize, ownSize, orderSize}
 use Rattle.orders.specs.Split.{Split, splitOf, firstBytes, secondBytes}
 use Rattle.orders.specs.Join.{Join, joinOf}
@@ -23,19 +23,15 @@ use Rattle.sheet.proofs.Outcomes.{through}
 use Rattle.sheet.proofs.Orders.{order-again, order-faultless, order-written-back, list-again, list-faultless, list-written-back}
 use Rattle.wire.specs.Lists.{listBytes}
 
-pub content-front : (end : ℕ) (out content : List ℕ) (n : ℕ) → n ≡ length content → take n (filled end out content) ≡ content
-unfolding filled
-content-front end out content n e = take-at content (replicate (end - length content) 0 ++ drop end out) n (sym e)
-
 -- What an accepted split gave.
-pub record SplitAccepted (s a b : List ℕ) (n : ℕ) (a′ b′ : List ℕ) : Type 0 where
+record SplitAccepted (s a b : List ℕ) (n : ℕ) (a′ b′ : List ℕ) : Type 0 where
   pub lists : Order
   pub reads : orderIn limits s ≡ accepted lists
   pub answer : n ≡ length (listBytes (lists .gate))
   pub gate : a′ ≡ filled (gateSize limits) a (listBytes (lists .gate))
   pub own : b′ ≡ filled (ownSize limits) b (listBytes (lists .own))
 
-pub split-accepted : {s a b : List ℕ} {n : ℕ} {a′ b′ : List ℕ} → Split s a b (Length n) a′ b′ → SplitAccepted s a b n a′ b′
+split-accepted : {s a b : List ℕ} {n : ℕ} {a′ b′ : List ℕ} → Split s a b (Length n) a′ b′ → SplitAccepted s a b n a′ b′
 unfolding splitOf lengthOf written roomFor
 split-accepted {s} {a} {b} {n} {a′} {b′} x = go (splitOf limits s a b) refl (x .answer) (x .gate) (x .own)
   where
@@ -46,6 +42,30 @@ split-accepted {s} {a} {b} {n} {a′} {b′} x = go (splitOf limits s a b) refl 
         let d = test-accepted (leb (ownSize limits) (length b)) 1 _ (c .1) in
         record { lists = o; reads = d .1; answer = cc u; gate = v; own = w }
     go (refused m) e u v w = let z : _≡_ {A = ℕ} 0 1 = cc u in absurd (omega arith)
+
+-- The same with what stands at the front of both buffers: the lists that the sheet says, and that say the sheet.
+pub record SplitWrote (s : List ℕ) (n : ℕ) (a′ b′ : List ℕ) : Type 0 where
+  pub lists : Order
+  pub reads : orderIn limits s ≡ accepted lists
+  pub sheet : orderBytes lists ≡ s
+  pub gate : take n a′ ≡ listBytes (lists .gate)
+  pub own : take (length s - n) b′ ≡ listBytes (lists .own)
+
+pub split-wrote : {s a b : List ℕ} {n : ℕ} {a′ b′ : List ℕ} → Each Byte s → Split s a b (Length n) a′ b′ → SplitWrote s n a′ b′
+unfolding orderBytes
+split-wrote {s} {a} {b} {n} {a′} {b′} h x =
+    let p = split-accepted x in
+    let gate : List ℕ = listBytes (p .lists .gate) in
+    let own : List ℕ = listBytes (p .lists .own) in
+    let k : gate ++ own ≡ s = order-written-back limits s (p .lists) (p .reads) h in
+    let l : length s - n ≡ length own = omega (arith, length-append gate own, ap length k, p .answer) in
+    record {
+      lists = p .lists;
+      reads = p .reads;
+      sheet = k;
+      gate = ap (take n) (p .gate) ∙ filled-content (gateSize limits) a gate n (p .answer);
+      own = ap (take (length s - n)) (p .own) ∙ filled-content (ownSize limits) b own (length s - n) l;
+    }
 
 -- What an accepted join gave.
 record JoinAccepted (a b out : List ℕ) (n : ℕ) (out′ : List ℕ) : Type 0 where
@@ -80,18 +100,12 @@ pub split-then-join :
     → Join (take n a′) (take (length s - n) b′) out r out′ → (r ≡ Length (length s)) × (out′ ≡ filled (orderSize limits) out s)
 unfolding orderBytes joinOf lengthOf written roomFor
 split-then-join {s} {a} {b} {a′} {b′} {out} {out′} {n} {r} h x g y =
-    let p = split-accepted x in
+    let p = split-wrote h x in
     let o = p .lists in
-    let gate : List ℕ = listBytes (o .gate) in
-    let own : List ℕ = listBytes (o .own) in
     let f = order-faultless limits s o (p .reads) in
-    let k : gate ++ own ≡ s = order-written-back limits s o (p .reads) h in
-    let e = p .answer in
-    let l : length s - n ≡ length own = omega (arith, length-append gate own, ap length k) in
-    let u : take n a′ ≡ gate = ap (take n) (p .gate) ∙ content-front (gateSize limits) a gate n e in
-    let v : take (length s - n) b′ ≡ own = ap (take (length s - n)) (p .own) ∙ content-front (ownSize limits) b own (length s - n) l in
-    let z = rw (u, v) at y in
-    let j : joinOf limits gate own out ≡ accepted o =
+    let k = p .sheet in
+    let z = rw (p .gate, p .own) at y in
+    let j : joinOf limits (listBytes (o .gate)) (listBytes (o .own)) out ≡ accepted o =
     rw (
       le-leb (orderSize limits) (length out) g,
       list-again (limits .gate) (o .gate) (omega arith) (f .0),
@@ -113,7 +127,7 @@ join-then-split {a} {b} {out} {out′} {x} {y} {x′} {y′} {n} {r} h k j g w z
     let o = p .lists in
     let e : listBytes (o .gate) ≡ a = list-written-back (limits .gate) a (o .gate) (p .gate) h in
     let f : listBytes (o .own) ≡ b = list-written-back (limits .own) b (o .own) (p .own) k in
-    let u : take n out′ ≡ orderBytes o = ap (take n) (p .sheet) ∙ content-front (orderSize limits) out (orderBytes o) n (p .answer) in
+    let u : take n out′ ≡ orderBytes o = ap (take n) (p .sheet) ∙ filled-content (orderSize limits) out (orderBytes o) n (p .answer) in
     let v = rw u at z in
     let c : splitOf limits (orderBytes o) x y ≡ accepted o =
     rw (

@@ -6,7 +6,6 @@ use mathlib.Core.Bool.{Bool, true, false, _&&_}
 use Prim.Native.Nat.{ℕ, _≤_, _<_}
 use native.Mathlib.Omega.{arith}
 use lib.ListN.{length, take, drop}
-use lib.Seq.{take-at}
 use borrow.Author.Tests.{le-leb, lt-leb}
 use Rattle.lists.proofs.Tests.{and-both}
 use Rattle.policy.specs.Fields.{limits, workSize}
@@ -16,6 +15,7 @@ use Rattle.policy.specs.declared.Answer.the-variants.{Length, Refused}
 use Rattle.policy.specs.declared.Refusal.the-variants.{BufferShort}
 use Rattle.policy.proofs.Answers.{said-once}
 use Rattle.wire.specs.Buffers.{zeroed, written, lengthOf, roomFor, filled}
+use Rattle.wire.proofs.Buffers.{filled-content}
 use Rattle.planner.specs.Calls.{workAfter, Call}
 use Rattle.planner.specs.Steps.{Writes}
 
@@ -76,5 +76,4 @@ module _ {A : Type 0} (bytes : A → List ℕ) (size : ℕ) (lent : Bool) (x : O
   call-accepted = accepts bytes size lent x out left n (c .answer) (c .result)
 
   pub call-content : take n left ≡ bytes (call-accepted .value)
-  unfolding filled
-  call-content = ap (take n) (call-accepted .leaves) ∙ take-at (bytes (call-accepted .value)) _ n (sym (call-accepted .answer))
+  call-content = ap (take n) (call-accepted .leaves) ∙ filled-content size out (bytes (call-accepted .value)) n (call-accepted .answer)

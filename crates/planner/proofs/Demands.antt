@@ -3,18 +3,18 @@
 use mathlib.Core.Path.{_≡_, refl, ap, sym, subst, _∙_}
 use mathlib.Core.List.{List, _++_}
 use mathlib.Core.Bool.{Bool, true, false, cond, _&&_}
-use Prim.Native.Nat.{ℕ, zero, suc, _+_, _<_, _≤_}
+use Prim.Native.Nat.{ℕ, _+_, _<_, _≤_}
 use native.Mathlib.Omega.{arith}
 use lib.Dec.{leb, ltb, eqb}
 use lib.ListN.{length, take, drop, length-append, length-take, length-drop}
-use lib.Seq.{take-at, length-take-le}
+use lib.Seq.{length-take-le}
 use borrow.Author.Tests.{le-leb, le-ltb, eqb-true, eqb-false, eq-eqb, ne-eqb}
 use Rattle.lists.proofs.Tests.{and-true}
 use Rattle.lists.specs.Lists.{Each}
 use Rattle.lists.proofs.Lists.{each-append, each-take, each-drop}
 use Rattle.policy.specs.Fields.{recordSize, Limits, limits}
 use Rattle.policy.specs.Rules.{Rule}
-use Rattle.policy.specs.Refusals.{Outcome, accepted, refused, andThen, given, unless, orElse}
+use Rattle.policy.specs.Refusals.{accepted, refused, given, unless, orElse}
 use Rattle.policy.specs.Move.{slotsOf, together, work, room, Order, Pair, moved, gateList, cellList}
 use Rattle.policy.proofs.Refused.{listRefusal, moveRefusal}
 use Rattle.policy.specs.Check.{checkRefusal}
@@ -28,11 +28,11 @@ use Rattle.policy.proofs.Checks.{checked-is-moved, moved-is-checked}
 use Rattle.policy.proofs.Moves.{moved-pair-forwards, boxes-cover-what-the-gate-dropped, cell-first}
 use Rattle.wire.specs.Numbers.{Byte}
 use Rattle.wire.specs.Buffers.{filled}
-use Rattle.wire.proofs.Buffers.{filled-over}
+use Rattle.wire.proofs.Buffers.{filled-content, filled-over}
 use Rattle.wire.proofs.Records.{RuleFits, ruleIn-fits}
 use Rattle.sheet.specs.Orders.{orderIn, orderBytes}
 use Rattle.sheet.specs.Pairs.{pairIn, pairBytes, pairSize}
-use Rattle.sheet.proofs.Outcomes.{through, faultless}
+use Rattle.sheet.proofs.Outcomes.{through, unless-both, faultless}
 use Rattle.sheet.proofs.Orders.{ListFits, faultless-fits, order-back, order-faultless, order-written-back, list-back}
 use Rattle.sheet.proofs.Pairs.{pair-back, pair-good, pair-written-back}
 use Rattle.sheet.proofs.Lengths.{other-length-refused}
@@ -46,10 +46,6 @@ use Rattle.planner.proofs.Good.{moved-good, pair-short, gate-list-good,
 
 unless-none : {A : Type 0} (n : ℕ) (a : A) → n ≡ 0 → unless n a ≡ accepted a
 unless-none n a e = rw e
-
-unless-plan : {A B : Type 0} (n m : ℕ) (a : A) (b : B) (f : A → Outcome B) → f a ≡ unless m b → andThen (unless n a) f ≡ unless (orElse n m) b
-unless-plan zero m a b f e = e
-unless-plan (suc n) m a b f e = refl
 
 -- a list with one rule of bytes put in fits its bytes
 put-fits : (c : Change) (s : List ℕ) → wholeRecord c s ≡ true → Each Byte s → Each RuleFits (put (kindOf c s)) × (length (put (kindOf c s)) ≤ 1)
@@ -87,7 +83,7 @@ module _ (lim : Limits) (small : Small lim) where
   unfolding moveOf moveRefusal planOf
   move-back o g w =
       rw (order-back lim o g w, ← orElse-assoc (listRefusal (lim .gate) (o .gate)) (listRefusal (lim .own) (o .own)) (room lim o (slotsOf o)))
-      (unless-plan (orElse (listRefusal (lim .gate) (o .gate)) (listRefusal (lim .own) (o .own))) (room lim o (slotsOf o)) o (moved o) (λ (x : Order). unless (room lim x (slotsOf x)) (moved x)) refl)
+      (unless-both (orElse (listRefusal (lim .gate) (o .gate)) (listRefusal (lim .own) (o .own))) (room lim o (slotsOf o)) o (λ (x : Order). unless (room lim x (slotsOf x)) (moved x)) (moved o) refl)
 
   move-fits : (o : Order) → moveRefusal lim o ≡ 0 → ListFits (o .gate) × ListFits (o .own)
   move-fits o h =
@@ -152,8 +148,7 @@ module _ (lim : Limits) (small : Small lim) where
 
   -- the sheet that stands in a buffer is read back, and writing another over it leaves nothing of it
   held-taken : (out : List ℕ) (o : Order) → moveRefusal lim o ≡ 0 → take (length (pairBytes (moved o))) (held lim out (moved o) .buffer) ≡ pairBytes (moved o)
-  unfolding filled
-  held-taken out o h = take-at (pairBytes (moved o)) _ (length (pairBytes (moved o))) refl
+  held-taken out o h = filled-content (pairSize lim) out (pairBytes (moved o)) (length (pairBytes (moved o))) refl
 
   held-long : (out : List ℕ) (o : Order) → length (pairBytes (moved o)) ≤ length (held lim out (moved o) .buffer)
   unfolding filled

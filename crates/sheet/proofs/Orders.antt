@@ -2,7 +2,7 @@
 -- Assumes nothing.
 use mathlib.Core.Path.{_≡_, refl, ap, sym, _∙_}
 use mathlib.Core.List.{List, [], _∷_, _++_, append-assoc, append-nil}
-use Prim.Native.Nat.{ℕ, zero, suc, _<_}
+use Prim.Native.Nat.{ℕ, _<_}
 use native.Mathlib.Omega.{arith}
 use lib.Dec.{eqb}
 use lib.ListN.{length}
@@ -10,7 +10,7 @@ use borrow.Author.Tests.{eqb-true}
 use Rattle.lists.specs.Lists.{Each}
 use Rattle.policy.specs.Fields.{Limits}
 use Rattle.policy.specs.Rules.{Rule, sound}
-use Rattle.policy.specs.Refusals.{Outcome, accepted, andThen, orElse, unless}
+use Rattle.policy.specs.Refusals.{accepted, orElse, unless}
 use Rattle.policy.specs.Move.{Order}
 use Rattle.policy.proofs.Refused.{listRefusal}
 use Rattle.wire.specs.Numbers.{Byte}
@@ -18,7 +18,7 @@ use Rattle.wire.proofs.Numbers.{bytes-drop}
 use Rattle.wire.proofs.Records.{RuleFits, sound-fits}
 use Rattle.sheet.specs.Sections.{Reading, reading, section}
 use Rattle.sheet.specs.Orders.{ended, order, orderIn, orderBytes, listIn, listsIn}
-use Rattle.sheet.proofs.Outcomes.{through, faultless}
+use Rattle.sheet.proofs.Outcomes.{through, unless-then, unless-both, faultless}
 use Rattle.sheet.proofs.Sections.{section-good, section-written-back, section-back}
 use Rattle.lists.proofs.Lists.{each-every}
 use Rattle.policy.proofs.Answers.{test-accepted}
@@ -76,14 +76,6 @@ module _ (lim : Limits) (s : List ℕ) (r : Reading Order) (e : listsIn lim s �
       append-assoc (listBytes (r .value .gate)) (listBytes (r .value .own)) (r .rest)
       ∙ (ap (λ (l : List ℕ). listBytes (r .value .gate) ++ l) (section-written-back (lim .own) (g .middle) (reading (r .value .own) (r .rest)) m (g .own))
       ∙ section-written-back (lim .gate) s a b (g .gate))
-
-unless-then : {A B : Type 0} (n : ℕ) (a : A) (f : A → Outcome B) (b : B) → f a ≡ accepted b → andThen (unless n a) f ≡ unless n b
-unless-then zero a f b e = e
-unless-then (suc n) a f b e = refl
-
-unless-both : {A B : Type 0} (n m : ℕ) (a : A) (f : A → Outcome B) (b : B) → f a ≡ unless m b → andThen (unless n a) f ≡ unless (orElse n m) b
-unless-both zero m a f b e = e
-unless-both (suc n) m a f b e = refl
 
 pub lists-back :
     (lim : Limits) (o : Order) (t : List ℕ) → ListFits (o .gate) → ListFits (o .own)

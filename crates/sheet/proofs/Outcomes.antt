@@ -2,7 +2,7 @@
 use mathlib.Core.Path.{_≡_, refl, ap, sym, _∙_}
 use mathlib.Core.List.{List, [], _∷_}
 use mathlib.Core.Bool.{Bool, true, false, not, _&&_, _||_}
-use Prim.Native.Nat.{ℕ, _≤_}
+use Prim.Native.Nat.{ℕ, zero, suc, _≤_}
 use native.Mathlib.Omega.{arith}
 use lib.Dec.{leb, ltb}
 use lib.ListN.{length}
@@ -33,6 +33,15 @@ pub record Through {A B : Type 0} (x : Outcome A) (f : A → Outcome B) (v : B) 
 pub through : {A B : Type 0} (x : Outcome A) (f : A → Outcome B) (v : B) → andThen x f ≡ accepted v → Through x f v
 through (accepted a) f v e = record { value = a; first = refl; then = e }
 through (refused n) f v e = let z : _≡_ {A = ℕ} 0 1 = cc in absurd (omega arith)
+
+-- Going on where a number may have been given.
+pub unless-then : {A B : Type 0} (n : ℕ) (a : A) (f : A → Outcome B) (b : B) → f a ≡ accepted b → andThen (unless n a) f ≡ unless n b
+unless-then zero a f b e = e
+unless-then (suc n) a f b e = refl
+
+pub unless-both : {A B : Type 0} (n m : ℕ) (a : A) (f : A → Outcome B) (b : B) → f a ≡ unless m b → andThen (unless n a) f ≡ unless (orElse n m) b
+unless-both zero m a f b e = e
+unless-both (suc n) m a f b e = refl
 
 faults-every : (l : List Rule) → faults l ≡ given (not (every sound l)) 4
 unfolding faults every

@@ -40,6 +40,11 @@ filled-is content out copied last m n e h g u v =
     ∙ (drop-append-add content (drop m out) (n - m) ∙ (drop-drop (n - m) m out ∙ ap (λ (j : ℕ). drop j out) k′))) in
     v ∙ (rw (x, y) (ap (λ (j : ℕ). content ++ (replicate (n - j) 0 ++ drop n out)) e))
 
+-- What stands at the front is the content.
+pub filled-content : (end : ℕ) (out content : List ℕ) (n : ℕ) → n ≡ length content → take n (filled end out content) ≡ content
+unfolding filled
+filled-content end out content n e = take-at content (replicate (end - length content) 0 ++ drop end out) n (sym e)
+
 -- Filled once more, nothing of the first content is left.
 pub filled-over : (end : ℕ) (out c d : List ℕ) → length c ≤ end → filled end (filled end out c) d ≡ filled end out d
 unfolding filled
