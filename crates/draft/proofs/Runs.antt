@@ -22,7 +22,7 @@ use Rattle.draft.specs.Steps.{runSize, GroupsHeld}
 use Rattle.wire.specs.Lists.{countIn}
 use Rattle.wire.proofs.Items.{bytes-append}
 
-boxes-cons : (n : ℕ) (s : List ℕ) → boxCount (suc n) s ≡ countIn s + boxCount n (drop (groupSize (countIn s)) s)
+pub boxes-cons : (n : ℕ) (s : List ℕ) → boxCount (suc n) s ≡ countIn s + boxCount n (drop (groupSize (countIn s)) s)
 unfolding groupsFrom together
 boxes-cons n s =
     length-append (groupBoxes s) (together (groupsFrom n (drop (groupSize (countIn s)) s)))

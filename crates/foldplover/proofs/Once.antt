@@ -3,6 +3,7 @@ use mathlib.Core.Path.{_≡_}
 use mathlib.Core.List.{List}
 use mathlib.Core.Bool.{Bool}
 use Prim.Native.Nat.{ℕ}
+use Rattle.policy.specs.Ranges.{Packet}
 use Rattle.policy.specs.Refusals.{Outcome}
 use Rattle.records.specs.Calls.{RecordRead, RecordWritten}
 use Rattle.records.proofs.Calls.{rule-once, record-once}
@@ -13,6 +14,8 @@ use Rattle.orders.proofs.Joins.{join-once}
 use Rattle.planner.specs.Calls.{Call, Checks}
 use Rattle.planner.proofs.Calls.{call-once}
 use Rattle.checking.proofs.Checking.{check-once}
+use Rattle.origins.specs.Origin.{Origins}
+use Rattle.origins.proofs.Calls.{origin-once}
 use Rattle.foldplover.specs.Coded.{Coded}
 use Rattle.foldplover.proofs.Codes.{same-number}
 
@@ -44,3 +47,8 @@ rule-number-once x y = let o = rule-once (x .below) (y .below) in (same-number x
 pub record-number-once :
     {ns out : List ℕ} {n m : ℕ} {y z : List ℕ} → Coded (λ q. RecordWritten ns out q y) n → Coded (λ q. RecordWritten ns out q z) m → (n ≡ m) × (y ≡ z)
 record-number-once x y = let o = record-once (x .below) (y .below) in (same-number x y (o .0), o .1)
+
+pub origin-number-once :
+    (p : Packet) (s ns w : List ℕ) {n m : ℕ} {u v u′ v′ : List ℕ} → Coded (λ q. Origins p s ns w q u v) n → Coded (λ q. Origins p s ns w q u′ v′) m
+    → (n ≡ m) × (u ≡ u′) × (v ≡ v′)
+origin-number-once p s ns w x y = let o = origin-once p s ns w (x .below) (y .below) in (same-number x y (o .0), o .1, o .2)

@@ -3,12 +3,13 @@
 use mathlib.Core.Path.{_≡_, refl, ap, sym, subst, _∙_}
 use mathlib.Core.List.{List}
 use mathlib.Core.Bool.{Bool, _&&_}
-use Prim.Native.Nat.{ℕ, _<_}
+use Prim.Native.Nat.{ℕ, _+_, _*_, _<_}
 use native.Mathlib.Omega.{arith}
 use lib.Dec.{leb}
 use lib.ListN.{length}
 use borrow.Author.Tests.{leb-true}
 use Rattle.policy.specs.Fields.{limits, recordSize, workSize}
+use Rattle.policy.specs.Ranges.{Packet}
 use Rattle.policy.specs.Refusals.{refusalBase, Outcome, accepted, refused, test, said}
 use Rattle.policy.specs.Move.{Order}
 use Rattle.policy.specs.declared.Answer.{Answer}
@@ -21,6 +22,8 @@ use Rattle.orders.specs.Split.{splitOf, Split, firstBytes}
 use Rattle.orders.specs.Join.{joinOf, Join}
 use Rattle.planner.specs.Calls.{Call, checkOf, Checks}
 use Rattle.planner.proofs.Lengths.{filled-within, call-length}
+use Rattle.origins.specs.Origin.{Decision, originCall, valueOf, Origins}
+use Rattle.origins.proofs.Calls.{value-small}
 use Rattle.foldplover.specs.Coded.{Plain}
 use Rattle.wire.specs.Lists.{listBytes}
 
@@ -71,3 +74,12 @@ join-small a b out (refused n) e h = tt
 pub join-plain : {a b out out′ : List ℕ} {q : Answer} → Join a b out q out′ → length out′ ≡ length out → Plain (said q)
 join-plain {a = a} {b = b} {out = out} x e =
     subst Plain (sym (x .answer)) (join-small a b out (joinOf limits a b out) refl (sym (ap length (x .sheet)) ∙ e))
+
+-- Origin: a place of the cell list and an action.
+value-plain : (x : Outcome Decision) → ((d : Decision) → x ≡ accepted d → 2 * d .hit .place + d .hit .action < refusalBase) → Plain (valueOf x)
+unfolding valueOf
+value-plain (accepted d) h = h d refl
+value-plain (refused k) h = tt
+
+pub origin-plain : {p : Packet} {s ns w ns′ w′ : List ℕ} {q : Answer} → Origins p s ns w q ns′ w′ → Plain (said q)
+origin-plain {p = p} {s = s} {ns = ns} {w = w} x = subst Plain (sym (x .answer)) (value-plain (originCall p s ns w) (value-small p s ns w))

@@ -17,6 +17,7 @@ ghost use Rattle.planner.specs.Calls.{Moves, Checks, Lists, cellBytes, cellList
 ghost use Rattle.planner.specs.Edits.{Edits, asked};
 ghost use Rattle.planner.specs.declared.Change.the-variants.{Insert, Delete, Replace};
 ghost use Rattle.filter.specs.Lookup.{lookup, lookupNumber};
+ghost use Rattle.origins.specs.Origin.{Origins};
 ghost use Rattle.foldplover.specs.Coded.{coded, Plain, Coded};
 
 fn answer_number(a: Answer) -> u32
@@ -146,4 +147,21 @@ pub extern "C" fn foldplover_lookup(
     ensures { λ r. ⌜ r ≡ lookupNumber (lookup (limits .total) (src ∷ dst ∷ sport ∷ dport ∷ proto ∷ []) (now (list .entry))) ⌝ }
 {
     filter::lookup_number(packet_of(src, dst, sport, dport, proto), list)
+}
+
+#[no_mangle]
+pub extern "C" fn foldplover_origin(
+    src: u32,
+    dst: u32,
+    sport: u32,
+    dport: u32,
+    proto: u32,
+    sheet: &[u8],
+    numbers: &mut [u32],
+    work: &mut [u8],
+) -> u32
+    ensures { λ r. ⌜ Coded (λ q. Origins (src ∷ dst ∷ sport ∷ dport ∷ proto ∷ []) (now (sheet .entry)) (now (numbers .entry)) (now (work .entry)) q (now (numbers .exit)) (now (work .exit))) r ⌝ }
+{
+    let p = packet_of(src, dst, sport, dport, proto);
+    answer_number(origins::origin(p, sheet, numbers, work))
 }

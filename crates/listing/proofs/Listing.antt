@@ -30,7 +30,8 @@ use Rattle.sheet.proofs.Orders.{faultless-fits}
 use Rattle.planner.specs.Calls.{checkOf, Call, cellBytes, gateBytes, gateListSize}
 use Rattle.checking.specs.Steps.{CheckRead}
 use Rattle.listing.specs.Steps.{boxRecords, groupRecords, ListPut}
-use Rattle.planner.proofs.Good.{denials-length, gate-list-good}
+use Rattle.policy.proofs.Places.{denials-length}
+use Rattle.planner.proofs.Good.{gate-list-good}
 use Rattle.planner.proofs.Calls.{call-done}
 use Rattle.planner.proofs.Finished.{refuses}
 use Rattle.wire.specs.Lists.{countIn, listBytes}

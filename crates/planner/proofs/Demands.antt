@@ -262,10 +262,15 @@ module _ (lim : Limits) (small : Small lim) where
         let g = edited-good lim p (pair-good lim s p r (small .share)) (editOf a) (accepted-edit s a p q r e .none) in
         subst (λ (x : Pair). pairIn lim (pairBytes x) ≡ accepted x) edited-is (pair-back lim (edited (editOf a) p) (omega (arith, small .gate)) (omega (arith, small .own)) (small .total) g)
 
-  -- What check accepts is what a move of its lists writes.
-  pub check-is-move : (s : List ℕ) (p : Pair) → Each Byte s → checkOf lim s ≡ accepted p → CheckIsMove lim s p
+  -- what a sheet that passes check is: it reads as the moved pair of its lists, and their move is accepted
+  pub record CheckedPair (s : List ℕ) (p : Pair) : Type 0 where
+    pub reads : pairIn lim s ≡ accepted p
+    pub moved : p ≡ moved (p .order)
+    pub none : moveRefusal lim (p .order) ≡ 0
+
+  pub checked-pair : (s : List ℕ) (p : Pair) → checkOf lim s ≡ accepted p → CheckedPair s p
   unfolding checkOf checkedOf checkRefusal moveRefusal room
-  check-is-move s p b e =
+  checked-pair s p e =
       let a = through (pairIn lim s) _ p e in
       let u = unless-accepted (checkRefusal lim (a .value)) (a .then) in
       let r : pairIn lim s ≡ accepted p = a .first ∙ ap accepted (u .1) in
@@ -277,6 +282,15 @@ module _ (lim : Limits) (small : Small lim) where
       let w = g .groups .within in
       let n = orElse-zero (work lim (slotsOf o)) _ c in
       let l : ltb (lim .total) (length (together (moved o .groups)) + length (o .own)) ≡ false = le-ltb (lim .total) _ (omega arith) in
-      let none : moveRefusal lim o ≡ 0 = orElse-both (listRefusal (lim .gate) (o .gate)) _ (g .gate) (orElse-both (listRefusal (lim .own) (o .own)) _ (g .own)
-      (orElse-both (work lim (slotsOf o)) _ (n .0) (ap (λ (y : Bool). given y 7) l))) in
-      record { sheet = pair-written-back lim s p r b; moves = move-again o none ∙ ap accepted (sym m) }
+      record {
+        reads = r;
+        moved = m;
+        none = orElse-both (listRefusal (lim .gate) (o .gate)) _ (g .gate) (orElse-both (listRefusal (lim .own) (o .own)) _ (g .own)
+            (orElse-both (work lim (slotsOf o)) _ (n .0) (ap (λ (y : Bool). given y 7) l)));
+      }
+
+  -- What check accepts is what a move of its lists writes.
+  pub check-is-move : (s : List ℕ) (p : Pair) → Each Byte s → checkOf lim s ≡ accepted p → CheckIsMove lim s p
+  check-is-move s p b e =
+      let c = checked-pair s p e in
+      record { sheet = pair-written-back lim s p (c .reads) b; moves = move-again (p .order) (c .none) ∙ ap accepted (sym (c .moved)) }

@@ -18,6 +18,7 @@ use Rattle.policy.specs.Move.{Slot, slots, slotsOf, startOf, boxesOf, together,
 use Rattle.policy.proofs.Refused.{listRefusal, moveRefusal}
 use Rattle.policy.proofs.Numbers.{orElse-zero, orElse-both, given-zero}
 use Rattle.policy.proofs.Proper.{moved-proper}
+use Rattle.policy.proofs.Places.{denials-length}
 use Rattle.policy.proofs.Edits.{slots-append, move-accepted, list-accepted, slots-length, faults-append}
 use Rattle.wire.proofs.Numbers.{numberBytes-length}
 use Rattle.sheet.specs.Orders.{orderBytes}
@@ -83,11 +84,6 @@ complete-behind [] l h = h
 complete-behind (r ∷ []) [] h = absurd (false≢true h)
 complete-behind (r ∷ []) (q ∷ l) h = h
 complete-behind (r ∷ (q ∷ x)) l h = complete-behind (q ∷ x) l h
-
-pub denials-length : (bs : List Region) → length (denials bs) ≡ length bs
-unfolding denials
-denials-length [] = refl
-denials-length (b ∷ bs) = ap suc (denials-length bs)
 
 denials-sound : (bs : List Region) → Each Proper bs → faults (denials bs) ≡ 0
 unfolding denials faults sound Each

@@ -30,7 +30,7 @@ denies-append (r ∷ x) y = go (isAllow r) (denies-append x y)
     go false h = omega arith
 
 -- a deny rule before a place is counted there
-deny-counts : (l : List Rule) (j i : ℕ) (d : Rule) → j < i → i ≤ length l → isAllow (getD l j d) ≡ false → denies (take j l) < denies (take i l)
+pub deny-counts : (l : List Rule) (j i : ℕ) (d : Rule) → j < i → i ≤ length l → isAllow (getD l j d) ≡ false → denies (take j l) < denies (take i l)
 unfolding denies
 deny-counts [] j i d h k e = omega arith
 deny-counts (r ∷ l) j zero d h k e = omega arith

@@ -12,4 +12,6 @@ pub mod Kept
 pub mod Checks
 pub mod Boundary
 pub mod Demands
+pub mod Places
+pub mod Origins
 pub mod Answers

@@ -116,6 +116,14 @@ complete-allows p (r ∷ (s ∷ l)) n h k =
     go true e x ih q = rw (proper-inside highest p (r .region) q e) (not-not (eqb (r .action) 1))
     go false e x ih q = ih
 
+-- A packet that no rule of a complete list has is outside the limits.
+pub nothing-above : (p : Packet) (l : List Rule) (n : ℕ) → faults l ≡ 0 → complete l ≡ true → firstFrom n p l ≡ nothing → inLimits p ≡ false
+nothing-above p l n h k e = go (inLimits p) (ap saysAllow (sym e) ∙ (complete-allows p l n h k ∙ ap (λ (x : Found). inLimits p && not (saysDrop x)) e))
+  where
+    go : (t : Bool) → false ≡ (t && true) → t ≡ false
+    go true h = sym h
+    go false h = refl
+
 pub any-append : (p : Packet) (l k : List Region) → anyHas p (l ++ k) ≡ (anyHas p l || anyHas p k)
 unfolding anyHas
 any-append p [] k = refl
@@ -124,6 +132,18 @@ any-append p (b ∷ l) k = rw (any-append p l k) (or-assoc (inside p b) (anyHas 
 -- a start has a packet of the deny box once if a test of the packet holds
 abbrev pub Starts : Packet → (Region → List Region) → Bool → Type 0
 Starts p f to = (d : Region) → hits p (f d) ≡ one (inside p d && to)
+
+-- a group has a packet of the deny box exactly if the start takes it and no allow has it
+pub group-has : (f : Region → List Region) (to : Bool) (p : Packet) (allows : List Region) (d : Region) → Starts p f to → Each Whole allows
+    → anyHas p (group (f d) allows) ≡ ((inside p d && to) && not (anyHas p allows))
+group-has f to p allows d st w =
+    any-once p (group (f d) allows) ((inside p d && to) && not (anyHas p allows)) (group-each-hits p (f d) allows w ∙ rw (st d) (less (inside p d && to) (anyHas p allows)))
+  where
+    less : (u x : Bool) → cond x 0 (one u) ≡ one (u && not x)
+    less true true = refl
+    less true false = refl
+    less false true = refl
+    less false false = refl
 
 -- the boxes of the slots have a packet exactly if no earlier allow has it, the start takes it and the rest of the list drops it
 pub slots-cover : (f : Region → List Region) (to : Bool) (p : Packet) (before : List Region) (l : List Rule) (n : ℕ) → Starts p f to → Each Whole before → faults l ≡ 0
@@ -141,14 +161,8 @@ slots-cover f to p before (r ∷ l) n st w h =
     go (isAllow r) refl (inside p (r .region)) refl
     (slots-cover f to p (before ++ (r .region ∷ [])) l (suc n) st (each-append Whole before (r .region ∷ []) w (v, tt)) (z .1))
     (slots-cover f to p before l (suc n) st w (z .1))
-    (any-once p (group (f (r .region)) before) ((inside p (r .region) && to) && not (anyHas p before)) (group-each-hits p (f (r .region)) before w ∙ rw (st (r .region)) (less (inside p (r .region) && to) (anyHas p before))))
+    (group-has f to p before (r .region) st w)
   where
-    less : (u x : Bool) → cond x 0 (one u) ≡ one (u && not x)
-    less true true = refl
-    less true false = refl
-    less false true = refl
-    less false false = refl
-
     left : (x u t d : Bool) → (not (x || (u || false)) && (t && d)) ≡ (not x && (t && cond u false d))
     left true u t d = refl
     left false true true d = refl
@@ -179,7 +193,7 @@ slots-cover f to p before (r ∷ l) n st w h =
         (right (anyHas p before) false to (saysDrop (firstFrom (suc n) p l)))
 
 -- a group that starts with the box alone
-alone-hits : (p : Packet) → Starts p (λ (d : Region). d ∷ []) true
+pub alone-hits : (p : Packet) → Starts p (λ (d : Region). d ∷ []) true
 unfolding hits
 alone-hits p d = go (inside p d)
   where

@@ -7,6 +7,7 @@ pub mod Move
 pub mod Edit
 pub mod Check
 pub mod Demands
+pub mod Origins
 pub mod Values
 pub mod Steps
 pub mod Boundary

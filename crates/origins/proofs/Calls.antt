@@ -1,0 +1,90 @@
+-- The call: its two tests, check's refusals, and a trace told; and two outcomes of one call are equal. Assumes nothing.
+use mathlib.Core.Path.{_≡_, refl, ap, sym, _∙_, subst}
+use mathlib.Core.List.{List}
+use mathlib.Core.Bool.{Bool, true, false}
+use Prim.Native.Nat.{ℕ, _+_, _*_, _<_, _≤_}
+use native.Mathlib.Omega.{arith}
+use lib.ListN.{length}
+use Rattle.policy.specs.Fields.{limits, workSize}
+use Rattle.policy.specs.Ranges.{Packet}
+use Rattle.policy.specs.Refusals.{refusalBase, accepted, refused, numberOf}
+use Rattle.policy.specs.Move.{cellList}
+use Rattle.policy.specs.Origins.{HasOrigin, placeOf}
+use Rattle.policy.specs.declared.Answer.{Answer}
+use Rattle.policy.specs.declared.Answer.the-variants.{Refused}
+use Rattle.policy.specs.declared.Refusal.{Refusal}
+use Rattle.policy.specs.declared.Refusal.the-variants.{BufferShort}
+use Rattle.policy.proofs.Answers.{said-once, test-accepted}
+use Rattle.wire.specs.Buffers.{zeroed, written}
+use Rattle.sheet.specs.Steps.{pairHeard, PairPlaced}
+use Rattle.sheet.specs.declared.PairParts.the-variants as P
+use Rattle.sheet.proofs.Outcomes.{faultless, through}
+use Rattle.planner.specs.Calls.{workAfter, bothLent, checkOf}
+use Rattle.planner.proofs.Calls.{room-short, work-short, both-there}
+use Rattle.checking.specs.Steps.{CheckRead}
+use Rattle.origins.specs.Origin.{Decision, decision, originOf, originSize, originCall, valueOf, Origins}
+use Rattle.origins.specs.Steps.{laidOut, Checked, traceHeard, Traced, Small, TraceTold}
+use Rattle.origins.specs.declared.Layout.{Layout}
+use Rattle.origins.specs.declared.Trace.{Trace}
+use Rattle.origins.specs.declared.Trace.the-variants.{Gate, Own, Nowhere}
+use Rattle.origins.proofs.Deciding.{good, cell-faultless, decided}
+
+-- the parts that check gives
+pub check-laid : {s : List ℕ} (l : Layout) → CheckRead s (P.Parts (l .gate) (l .own) (l .middle) (l .third) (l .boxes)) → Checked s l
+unfolding pairHeard PairPlaced
+check-laid l x = record { checks = sym (x .says); place = x .place }
+
+-- a trace's numbers are those of a place of the cell list
+pub traced-small : {s : List ℕ} {l : Layout} → Checked s l → (p : Packet) (t : Trace) → Traced p (laidOut l s) t → Small t
+unfolding traceHeard Small HasOrigin placeOf
+traced-small {s} {l} c p (Gate rule number place) x =
+    let d = decided s (laidOut l s) (c .checks) p _ (sym (x .says)) in
+    let f = faultless (limits .total) _ (cell-faultless s (laidOut l s) (c .checks)) in
+    let g = faultless (limits .gate) _ (good s (laidOut l s) (c .checks) .gate) in
+    (omega (arith, d .has .0, g .many), omega (arith, d .place, d .back, f .many), omega (arith, d .place, f .many))
+traced-small {s} {l} c p (Own gate rule place action) x =
+    let d = decided s (laidOut l s) (c .checks) p _ (sym (x .says)) in
+    let f = faultless (limits .total) _ (cell-faultless s (laidOut l s) (c .checks)) in
+    (omega (arith, d .place, d .back, f .many), omega (arith, d .place, f .many), d .action)
+traced-small c p Nowhere x = tt
+
+module _ (p : Packet) (s ns w : List ℕ) where
+  short : bothLent originSize ns w ≡ false → Origins p s ns w (Refused BufferShort) ns w
+  unfolding originCall valueOf written workAfter
+  short e = record { answer = rw e refl; numbers = rw e refl; work = rw e refl }
+
+  pub numbers-short : length ns < originSize → Origins p s ns w (Refused BufferShort) ns w
+  numbers-short h = short (room-short originSize ns _ h)
+
+  pub work-too-short : originSize ≤ length ns → length w < workSize limits → Origins p s ns w (Refused BufferShort) ns w
+  work-too-short h k = short (work-short originSize (workSize limits) ns w h k)
+
+  module _ (h : originSize ≤ length ns) (k : workSize limits ≤ length w) {w′ : List ℕ} (clear : w′ ≡ zeroed 0 (workSize limits) w) where
+    lent : bothLent originSize ns w ≡ true
+    lent = both-there originSize (workSize limits) ns w h k
+
+    pub origin-refused : {f : Refusal} → CheckRead s (P.Fault f) → Origins p s ns w (Refused f) ns w′
+    unfolding originCall originOf valueOf written workAfter pairHeard
+    origin-refused x = record { answer = rw (lent, ← x .says) refl; numbers = rw (lent, ← x .says) refl; work = rw lent clear }
+
+    pub origin-told : {l : Layout} → Checked s l → {t : Trace} → Traced p (laidOut l s) t → {r : Answer} {ns′ : List ℕ} → TraceTold t ns r ns′ → Origins p s ns w r ns′ w′
+    unfolding originCall originOf workAfter
+    origin-told c x y = record {
+      answer = rw (lent, c .checks, ← x .says) (y .answer);
+      numbers = rw (lent, c .checks, ← x .says) (y .numbers);
+      work = rw lent clear;
+    }
+
+  -- Two outcomes of one call are equal.
+  pub origin-once : {r r′ : Answer} {u u′ v v′ : List ℕ} → Origins p s ns w r u v → Origins p s ns w r′ u′ v′ → (r ≡ r′) × (u ≡ u′) × (v ≡ v′)
+  origin-once {r = r} {r′ = r′} x y = (said-once r r′ (x .answer ∙ sym (y .answer)), x .numbers ∙ sym (y .numbers), x .work ∙ sym (y .work))
+
+  -- what is answered is below every refusal
+  pub value-small : (d : Decision) → originCall p s ns w ≡ accepted d → 2 * d .hit .place + d .hit .action < refusalBase
+  unfolding originCall originOf
+  value-small d e =
+      let t = test-accepted (bothLent originSize ns w) 1 (originOf limits p s) e in
+      let q = through (checkOf limits s) _ d (t .1) in
+      let k = decided s (q .value) (q .first) p d (q .then) in
+      let f = faultless (limits .total) (cellList (q .value)) (cell-faultless s (q .value) (q .first)) in
+      omega (arith, k .place, k .action, f .many)

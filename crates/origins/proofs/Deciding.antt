@@ -1,0 +1,109 @@
+-- Whose rule decides on a sheet that passes check: a box of the gate's rule, an own rule, or none. Assumes nothing.
+use mathlib.Core.Path.{_≡_, refl, ap, sym, _∙_, subst}
+use mathlib.Core.List.{List, []}
+use mathlib.Core.Bool.{Bool, true, false, not, _&&_}
+use Prim.Native.Nat.{ℕ, _+_, _<_, _≤_}
+use native.Mathlib.Omega.{arith}
+use lib.ListN.{length, getD}
+use Rattle.policy.specs.Fields.{limits}
+use Rattle.policy.specs.Ranges.{Packet}
+use Rattle.policy.specs.Rules.{Rule, rule, complete, Found, found, nothing, firstFrom, first, saysAllow, saysDrop, allows, drops, inLimits}
+use Rattle.policy.specs.Refusals.{Outcome, accepted, refused, faults}
+use Rattle.policy.specs.Move.{Order, Pair, moved, together, cellList}
+use Rattle.policy.specs.Demands.{groupAt}
+use Rattle.policy.specs.Origins.{Origin, gateRule, ownRule, originAt, placeOf, HasOrigin}
+use Rattle.policy.specs.Steps.{boxNumber}
+use Rattle.policy.proofs.Refused.{listRefusal}
+use Rattle.policy.proofs.Edits.{move-accepted, list-accepted}
+use Rattle.policy.proofs.Moves.{above-from, nothing-above}
+use Rattle.policy.proofs.Places.{place-back}
+use Rattle.policy.proofs.Origins.{regions, first-found, first-nothing, own-decides, box-there, box-decides}
+use Rattle.sheet.proofs.Pairs.{PairGood, pair-good}
+use Rattle.planner.specs.Calls.{checkOf}
+use Rattle.planner.proofs.Good.{cell-list-good}
+use Rattle.planner.proofs.Demands.{limits-small, CheckedPair, checked-pair}
+use Rattle.filter.specs.Lookup.{hit, decidedBy}
+use Rattle.filter.proofs.Lists.{look-first}
+use Rattle.filter.proofs.Verdicts.{look-small}
+use Rattle.origins.specs.Origin.{Decision, decision}
+
+-- A decision by its origin: the place is the origin's.
+abbrev pub decidedAt : Pair → Origin → ℕ → Decision
+decidedAt q x action = record { hit = hit (placeOf q x) action; origin = x }
+
+module _ (s : List ℕ) (q : Pair) (checks : checkOf limits s ≡ accepted q) where
+  known : CheckedPair limits limits-small s q
+  known = checked-pair limits limits-small s q checks
+
+  pub good : PairGood limits q
+  good = pair-good limits s q (known .reads) (omega arith)
+
+  pub gate-clean : (faults (q .order .gate) ≡ 0) × (complete (q .order .gate) ≡ true)
+  gate-clean = list-accepted (limits .gate) (q .order .gate) (good .gate)
+
+  pub cell-faultless : listRefusal (limits .total) (cellList q) ≡ 0
+  cell-faultless = subst (λ (x : Pair). listRefusal (limits .total) (cellList x) ≡ 0) (sym (known .moved)) (cell-list-good limits (q .order) (known .none))
+
+  pub cell-clean : (faults (cellList q) ≡ 0) × (complete (cellList q) ≡ true)
+  cell-clean = list-accepted (limits .total) (cellList q) cell-faultless
+
+  -- an origin that is there, found by its place
+  at-origin : (p : Packet) (x : Origin) (action : ℕ) → HasOrigin q x → first p (cellList q) ≡ found (placeOf q x) action
+      → decision q (first p (cellList q)) ≡ accepted (decidedAt q x action)
+  at-origin p x action h e =
+      let b = place-back q (good .counted) .back x h .1 in
+      ap (decision q) e ∙ ap (λ (y : Origin). accepted (record { hit = hit (placeOf q x) action; origin = y })) b
+
+  module _ (p : Packet) where
+    -- the gate dropped the packet
+    module _ (j : ℕ) (dropped : first p (q .order .gate) ≡ found j 0) where
+      abbrev box : Pair → Origin
+      box x = gateRule j (boxNumber p (groupAt x j))
+
+      pub has-box : HasOrigin q (box q)
+      has-box = subst (λ (x : Pair). HasOrigin x (box x)) (sym (known .moved)) (box-there (q .order) p (gate-clean .0) j dropped)
+
+      pub by-gate : decision q (first p (cellList q)) ≡ accepted (decidedAt q (box q) 0)
+      by-gate =
+          at-origin p (box q) 0 has-box
+          (subst (λ (x : Pair). first p (cellList x) ≡ found (placeOf x (box x)) 0) (sym (known .moved)) (box-decides (q .order) p (gate-clean .0) j dropped))
+
+    -- it did not
+    module _ (passed : drops p (q .order .gate) ≡ false) where
+      to-own : first p (cellList q) ≡ firstFrom (length (together (q .groups))) p (q .order .own)
+      to-own =
+          subst (λ (x : Pair). first p (cellList x) ≡ firstFrom (length (together (x .groups))) p (q .order .own)) (sym (known .moved))
+          (own-decides (q .order) p (gate-clean .0) passed)
+
+      pub by-own : (i : ℕ) → i ≡ boxNumber p (regions (q .order .own)) → i < length (q .order .own)
+          → decision q (first p (cellList q)) ≡ accepted (decidedAt q (ownRule i) (getD (q .order .own) i (rule [] 0) .action))
+      unfolding HasOrigin placeOf
+      by-own i is h =
+          at-origin p (ownRule i) (getD (q .order .own) i (rule [] 0) .action) h
+          (to-own ∙ rw is (first-found (length (together (q .groups))) p (q .order .own) (rule [] 0) (rw is at h)))
+
+      pub by-none : length (q .order .own) ≤ boxNumber p (regions (q .order .own)) → decision q (first p (cellList q)) ≡ refused 5
+      by-none h = ap (decision q) (to-own ∙ first-nothing (length (together (q .groups))) p (q .order .own) h)
+
+    -- no rule of A has it: then it is outside the limits, and no rule of the cell list has it
+    pub by-nothing : first p (q .order .gate) ≡ nothing → decision q (first p (cellList q)) ≡ refused 5
+    by-nothing e = ap (decision q) (above-from p (cellList q) 0 (cell-clean .0) (nothing-above p (q .order .gate) 0 (gate-clean .0) (gate-clean .1) e))
+
+    -- What a decision is: first match in the cell list, at the place of an origin that is there.
+    pub record Decided (d : Decision) : Type 0 where
+      pub found : first p (cellList q) ≡ found (d .hit .place) (d .hit .action)
+      pub place : d .hit .place < length (cellList q)
+      pub action : d .hit .action ≤ 1
+      pub has : HasOrigin q (d .origin)
+      pub back : placeOf q (d .origin) ≡ d .hit .place
+
+    decided-by : (x : Found) → first p (cellList q) ≡ x → (d : Decision) → decision q x ≡ accepted d → Decided d
+    decided-by (found n a) e d h =
+        let small = look-small 0 p (cellList q) (hit n a) (look-first 0 p (cellList q) (cell-clean .0) ∙ ap decidedBy e) in
+        let there = place-back q (good .counted) .there n (omega (arith, small .0)) in
+        let is : record { hit = hit n a; origin = originAt q n } ≡ d = cc in
+        subst Decided is (record { found = e; place = omega (arith, small .0); action = small .1; has = there .0; back = there .1 })
+    decided-by nothing e d h = let z : _≡_ {A = ℕ} 0 1 = cc in absurd (omega arith)
+
+    pub decided : (d : Decision) → decision q (first p (cellList q)) ≡ accepted d → Decided d
+    decided d h = decided-by (first p (cellList q)) refl d h

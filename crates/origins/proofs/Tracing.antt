@@ -1,0 +1,220 @@
+-- A packet traced in the bytes of a sheet that passes check: what each part of the code finds there, as the definitions have it.
+-- Assumes nothing.
+use mathlib.Core.Path.{_≡_, refl, ap, sym, _∙_, subst}
+use mathlib.Core.List.{List, [], _∷_}
+use mathlib.Core.Bool.{Bool, true, false}
+use Prim.Native.Nat.{ℕ, zero, suc, _+_, _*_, _-_, _<_, _≤_}
+use native.Mathlib.Omega.{arith}
+use lib.ListN.{length, getD, take, drop, length-drop}
+use lib.Seq.{drop-drop, take-all}
+use Rattle.lists.proofs.Parts.{tail-whole}
+use Rattle.policy.specs.Fields.{limits, countSize, recordSize, boxSize}
+use Rattle.policy.specs.Ranges.{Region, Packet}
+use Rattle.policy.specs.Rules.{Rule, rule, isAllow, Found, found, first, saysDrop, drops, denies}
+use Rattle.policy.specs.Refusals.{accepted}
+use Rattle.policy.specs.Move.{Pair, together}
+use Rattle.policy.specs.Demands.{groupAt}
+use Rattle.policy.specs.Origins.{HasOrigin, gateRule, ownRule, placeOf}
+use Rattle.policy.specs.Steps.{boxNumber}
+use Rattle.policy.proofs.Kept.{deny-counts}
+use Rattle.policy.proofs.Origins.{regions, first-found, first-nothing}
+use Rattle.wire.specs.Records.{boxIn, ruleIn, rulesIn, boxesIn, eachIn}
+use Rattle.wire.specs.Lists.{countIn}
+use Rattle.wire.proofs.Records.{rulesIn-length, boxesIn-length, rule-in-place}
+use Rattle.sheet.specs.Pairs.{groupSize, groupBoxes}
+use Rattle.sheet.specs.Steps.{rulesOf, groupsFrom, boxCount}
+use Rattle.draft.specs.Steps.{runSize}
+use Rattle.draft.proofs.Drafts.{rules-front}
+use Rattle.draft.proofs.Runs.{boxes-cons, boxes-next, boxes-none, boxes-behind, groups-front}
+use Rattle.filter.specs.Lookup.{hit, decidedBy}
+use Rattle.filter.proofs.Lists.{look-first}
+use Rattle.filter.proofs.Verdicts.{look-small}
+use Rattle.origins.specs.Steps.{laidOut, Checked, traceHeard, GateTraced, Traced}
+use Rattle.origins.specs.declared.Layout.{Layout}
+use Rattle.origins.specs.declared.Trace.the-variants.{Gate, Own, Nowhere}
+use Rattle.origins.proofs.Boxes.{number-within, record-regions}
+use Rattle.origins.proofs.Deciding.{gate-clean, has-box, by-gate, by-own, by-none, by-nothing}
+
+-- the group at a place of groups in bytes, and where the next one begins
+run-next : (k : ℕ) (s : List ℕ) (count : ℕ) → count ≡ countIn (drop (runSize k s) s) → runSize (k + 1) s ≡ runSize k s + groupSize count
+run-next k s count e =
+    let b = boxes-behind k 1 s in
+    let a = boxes-next 1 s (runSize k s) count (omega arith) e in
+    let z = boxes-none (1 - 1) (drop (runSize k s + countSize + boxSize * count) s) (omega arith) in
+    omega arith
+
+run-first : (k : ℕ) (s : List ℕ) → runSize (suc k) s ≡ groupSize (countIn s) + runSize k (drop (groupSize (countIn s)) s)
+run-first k s = let e = boxes-cons k s in omega arith
+
+group-at : (k n : ℕ) (s : List ℕ) → k < n → getD (groupsFrom n s) k [] ≡ groupBoxes (drop (runSize k s) s)
+unfolding groupsFrom together
+group-at k zero s h = absurd (omega arith)
+group-at zero (suc n) s h = refl
+group-at (suc k) (suc n) s h =
+    group-at k n (drop (groupSize (countIn s)) s) (omega arith)
+    ∙ ap groupBoxes (drop-drop (runSize k (drop (groupSize (countIn s)) s)) (groupSize (countIn s)) s ∙ ap (λ (m : ℕ). drop m s) (sym (run-first k s)))
+
+module _ {s : List ℕ} {l : Layout} (c : Checked s l) (p : Packet) where
+  abbrev q : Pair
+  q = laidOut l s
+
+  -- A list of the sheet whose records begin at a place, and the first of them that has the packet.
+  module _ (n at : ℕ) (rules : List Rule) (are : rules ≡ rulesIn n (drop at s)) (i : ℕ) (is : i ≡ boxNumber p (eachIn recordSize boxIn n (drop at s))) where
+    number : i ≡ boxNumber p (regions rules)
+    number = is ∙ ap (boxNumber p) (sym (record-regions n (drop at s)) ∙ ap regions (sym are))
+
+    count : length rules ≡ n
+    count = ap length are ∙ rulesIn-length n (drop at s)
+
+    none : i ≡ n → length rules ≤ boxNumber p (regions rules)
+    none e = omega (arith, number, count)
+
+    module _ (some : i ≡ n → ⊥) where
+      here : i < n
+      here = omega (arith, number-within p recordSize n (drop at s), is)
+
+      in-place : getD rules i (rule [] 0) ≡ ruleIn (drop (at + recordSize * i) s)
+      in-place = ap (λ (x : List Rule). getD x i (rule [] 0)) are ∙ (rule-in-place i n (drop at s) (rule [] 0) here ∙ ap ruleIn (drop-drop (recordSize * i) at s))
+
+      decides : (r : Rule) → r ≡ ruleIn (drop (at + recordSize * i) s) → first p rules ≡ found i (r .action)
+      decides r e =
+          let b : boxNumber p (regions rules) < length rules = omega (arith, number, count, here) in
+          let f = first-found 0 p rules (rule [] 0) b in
+          let z : 0 + boxNumber p (regions rules) ≡ i = omega (arith, number) in
+          f ∙ rw (z, ← number, in-place, ← e) refl
+
+  -- A.
+  abbrev gate : List Rule
+  gate = q .order .gate
+
+  module _ (i : ℕ) (is : i ≡ boxNumber p (eachIn recordSize boxIn (l .gate) (drop countSize s))) where
+    pub nowhere-in-gate : i ≡ l .gate → Traced p q Nowhere
+    unfolding traceHeard GateTraced
+    nowhere-in-gate e = record { says = sym (by-nothing s q (c .checks) p (first-nothing 0 p gate (none (l .gate) countSize gate refl i is e))); gate = tt }
+
+    module _ (some : i ≡ l .gate → ⊥) where
+      pub gate-here : i < l .gate
+      gate-here = here (l .gate) countSize gate refl i is some
+
+      pub gate-decides : (r : Rule) → r ≡ ruleIn (drop (countSize + recordSize * i) s) → first p gate ≡ found i (r .action)
+      gate-decides r e = decides (l .gate) countSize gate refl i is some r e
+
+  -- what is found and does not allow denies
+  pub gate-drops : (i a : ℕ) → first p gate ≡ found i a → (a ≡ 1 → ⊥) → first p gate ≡ found i 0
+  gate-drops i a e other =
+      let h = look-small 0 p gate (hit i a) (look-first 0 p gate (gate-clean s q (c .checks) .0) ∙ ap decidedBy e) in
+      let z : a ≡ 0 = omega (arith, h .1) in
+      e ∙ ap (found i) z
+
+  -- B, where A allows.
+  own-are : q .order .own ≡ rulesIn (l .own) (drop (l .middle + countSize) s)
+  own-are = ap (rulesIn (l .own)) (drop-drop countSize (l .middle) s)
+
+  module _ (j : ℕ) (allowed : first p gate ≡ found j 1) (i : ℕ) (is : i ≡ boxNumber p (eachIn recordSize boxIn (l .own) (drop (l .middle + countSize) s))) where
+    passed : drops p gate ≡ false
+    passed = ap saysDrop allowed
+
+    pub nowhere-in-own : i ≡ l .own → Traced p q Nowhere
+    unfolding traceHeard GateTraced
+    nowhere-in-own e = record { says = sym (by-none s q (c .checks) p passed (none (l .own) (l .middle + countSize) (q .order .own) own-are i is e)); gate = tt }
+
+    module _ (some : i ≡ l .own → ⊥) where
+      pub own-here : i < l .own
+      own-here = here (l .own) (l .middle + countSize) (q .order .own) own-are i is some
+
+      pub own-traced : (r : Rule) → r ≡ ruleIn (drop (l .middle + countSize + recordSize * i) s) → Traced p q (Own j i (l .boxes + i) (r .action))
+      unfolding traceHeard GateTraced placeOf
+      own-traced r e =
+          let k : i < length (q .order .own) = omega (arith, own-here, count (l .own) (l .middle + countSize) (q .order .own) own-are i is) in
+          let a : getD (q .order .own) i (rule [] 0) ≡ r = in-place (l .own) (l .middle + countSize) (q .order .own) own-are i is some ∙ sym e in
+          record {
+            says = rw (c .place .boxesAre, ← a) (sym (by-own s q (c .checks) p passed i (number (l .own) (l .middle + countSize) (q .order .own) own-are i is) k));
+            gate = allowed;
+          }
+
+  -- The group of the rule that drops the packet.
+  module _ (j : ℕ) (dropped : first p gate ≡ found j 0) where
+    abbrev from : ℕ
+    from = l .third + countSize
+
+    abbrev groups : List ℕ
+    groups = drop from s
+
+    deny-there : (j < length gate) × (isAllow (getD gate j (rule [] 0)) ≡ false)
+    unfolding HasOrigin
+    deny-there = let h = has-box s q (c .checks) p j dropped in (h .0, h .1)
+
+    pub gate-inside : j < l .gate
+    gate-inside = omega (arith, deny-there .0, rulesIn-length (l .gate) (drop countSize s))
+
+    module _ (k : ℕ) (is : k ≡ denies (rulesOf j s)) where
+      earlier-are : k ≡ denies (take j gate)
+      earlier-are = is ∙ ap denies (sym (rules-front j (l .gate) (drop countSize s) (omega (arith, gate-inside))))
+
+      group-there : k < denies gate
+      group-there =
+          let d = deny-counts gate j (length gate) (rule [] 0) (deny-there .0) (omega arith) (deny-there .1) in
+          let w : denies (take (length gate) gate) ≡ denies gate = ap denies (take-all (length gate) gate (omega arith)) in
+          omega (arith, earlier-are)
+
+      groups-inside : from ≤ length s
+      groups-inside = omega (arith, c .place .end)
+
+      -- the groups up to this one, and it, are there
+      run-there : runSize (k + 1) groups ≤ length groups
+      run-there =
+          let n : ℕ = denies gate in
+          let e : k + 1 + (n - (k + 1)) ≡ n = omega (arith, group-there) in
+          let b = boxes-behind (k + 1) (n - (k + 1)) groups in
+          let f : boxCount n groups ≡ boxCount (k + 1) groups + boxCount (n - (k + 1)) (drop (runSize (k + 1) groups) groups) = ap (λ (m : ℕ). boxCount m groups) (sym e) ∙ b in
+          let g = length-drop from s in
+          omega (arith, c .place .end, c .place .boxesAre, group-there)
+
+      pub earlier-inside : runSize k (take (length s - from) groups) ≤ length (take (length s - from) groups)
+      earlier-inside =
+          let r = run-next k groups (countIn (drop (runSize k groups) groups)) refl in
+          rw (tail-whole s from groups-inside) (omega (arith, run-there))
+
+      module _ (front : ℕ) (counts : front ≡ boxCount k (take (length s - from) groups)) where
+        front-is : front ≡ boxCount k groups
+        front-is = counts ∙ ap (boxCount k) (tail-whole s from groups-inside)
+
+        abbrev start : ℕ
+        start = from + countSize * k + boxSize * front
+
+        start-is : start ≡ from + runSize k groups
+        start-is = omega (arith, front-is)
+
+        at-start : drop start s ≡ drop (runSize k groups) groups
+        at-start = ap (λ (m : ℕ). drop m s) start-is ∙ sym (drop-drop (runSize k groups) from s)
+
+        pub start-inside : start + countSize ≤ length s
+        start-inside =
+            let r = run-next k groups (countIn (drop (runSize k groups) groups)) refl in
+            let g = length-drop from s in
+            omega (arith, start-is, run-there, groups-inside)
+
+        module _ (n : ℕ) (told : n ≡ countIn (drop start s)) where
+          counted : n ≡ countIn (drop (runSize k groups) groups)
+          counted = told ∙ ap countIn at-start
+
+          pub boxes-inside : start + countSize + boxSize * n ≤ length s
+          boxes-inside =
+              let r = run-next k groups n counted in
+              let g = length-drop from s in
+              omega (arith, start-is, run-there, groups-inside)
+
+          boxes-are : eachIn boxSize boxIn n (drop (start + countSize) s) ≡ groupAt q j
+          boxes-are =
+              let g = group-at k (denies gate) groups group-there in
+              let d : drop countSize (drop start s) ≡ drop (start + countSize) s = drop-drop countSize start s in
+              let w : groupBoxes (drop start s) ≡ getD (q .groups) k [] = ap groupBoxes at-start ∙ sym g in
+              let x : getD (q .groups) k [] ≡ groupAt q j = ap (λ (m : ℕ). getD (q .groups) m []) earlier-are in
+              rw (told, ← d) (w ∙ x)
+
+          pub gate-traced : (b : ℕ) → b ≡ boxNumber p (eachIn boxSize boxIn n (drop (start + countSize) s)) → Traced p q (Gate j b (front + b))
+          unfolding traceHeard GateTraced placeOf
+          gate-traced b e =
+              let b-is : b ≡ boxNumber p (groupAt q j) = e ∙ ap (boxNumber p) boxes-are in
+              let f : front ≡ length (together (take (denies (take j gate)) (q .groups))) = front-is ∙ (ap (λ (x : List (List Region)). length (together x)) (sym (groups-front k (denies gate) groups (omega (arith, group-there)))) ∙ ap (λ (m : ℕ). length (together (take m (q .groups)))) earlier-are) in
+              record { says = rw (f, b-is) (sym (by-gate s q (c .checks) p j dropped)); gate = dropped }

@@ -1,0 +1,209 @@
+// Origin: a pair sheet checked, and a packet traced to the rule of the old lists that decides it. On a sheet that passes check that
+// rule is found in A and then in its one group, or in B, never by trying all boxes.
+use draft::kept;
+use groups::WORK_BYTES;
+use policy::Answer;
+use policy::BOX_BYTES;
+use policy::Box;
+use policy::COUNT_BYTES;
+use policy::FIELDS;
+use policy::Packet;
+use policy::RECORD_BYTES;
+use policy::Refusal;
+use sheet::PairParts;
+ghost use mathlib.Core.Path.{_≡_};
+ghost use mathlib.Core.List.{[], _∷_};
+ghost use Prim.Native.Nat.{_+_, _*_, _≤_, _<_};
+ghost use lib.ListN.{length, drop};
+ghost use lib.Seq.{sets};
+ghost use Rattle.policy.specs.Fields.{boxSize};
+ghost use Rattle.policy.specs.Ranges.{inside};
+ghost use Rattle.policy.specs.Rules.{found, first};
+ghost use Rattle.policy.specs.Steps.{boxNumber};
+ghost use Rattle.policy.specs.Values.{packetOf, regionOf};
+ghost use Rattle.wire.specs.Records.{boxIn, eachIn};
+ghost use Rattle.origins.specs.Origin.{Origins, originSize};
+ghost use Rattle.origins.specs.Steps.{laidOut, Checked, Traced, Small, TraceTold};
+
+// The least of numbers that is lent.
+pub const ORIGIN_NUMBERS: usize = 3;
+
+// Where the parts of a pair sheet lie: the counts of A and B, where B and C begin, and how many boxes all groups have.
+pub struct Layout {
+    pub gate: usize,
+    pub own: usize,
+    pub middle: usize,
+    pub third: usize,
+    pub boxes: usize,
+}
+
+// What decides a packet: the rule of A that drops it, the number of the box inside that rule's group and the box's place in the cell
+// list; or the rule of A that allows it, the rule of B behind it, its place in the cell list and its action; or no rule.
+pub enum Trace {
+    Gate {
+        rule: usize,
+        number: usize,
+        place: usize,
+    },
+    Own {
+        gate: usize,
+        rule: usize,
+        place: usize,
+        action: u32,
+    },
+    Nowhere,
+}
+
+fn has(b: Box, p: Packet) -> bool
+    ensures { λ r. ⌜ r ≡ inside (packetOf p) (regionOf b) ⌝ }
+{
+    let values = p.values;
+    for k in 0..FIELDS {
+        if values[k] < b.low_at(k) {
+            return false;
+        }
+        if b.high_at(k) < values[k] {
+            return false;
+        }
+    }
+    true
+}
+
+// The first of n boxes that has the packet, or n: each begins so many bytes behind the one before it, so that records serve too.
+fn first_box(p: Packet, s: &[u8], at: usize, size: usize, n: usize) -> usize
+    requires { ⌜ (boxSize ≤ size) × (at + size * n ≤ length (now s)) ⌝ }
+    ensures { λ r. ⌜ r ≡ boxNumber (packetOf p) (eachIn size boxIn n (drop at (now (s .entry)))) ⌝ }
+{
+    let mut start = at;
+    let mut left = n;
+    while 0 < left {
+        if has(wire::box_at(s, start), p) {
+            return n - left;
+        }
+        start += size;
+        left -= 1;
+    }
+    n
+}
+
+// The packet that the deny rule at a place of A drops: its group is found behind those of the deny rules before it.
+fn trace_gate(p: Packet, sheet: &[u8], l: Layout, rule: usize) -> Trace
+    requires { ⌜ Checked (now sheet) l × (first (packetOf p) (laidOut l (now sheet) .order .gate) ≡ found rule 0) ⌝ }
+    ensures { λ r. ⌜ Traced (packetOf p) (laidOut l (now (sheet .entry))) r ⌝ }
+{
+    let earlier = sheet::count_denies(sheet, rule);
+    let from = l.third + COUNT_BYTES;
+    let front = kept::count_boxes(&sheet[from..], earlier);
+    let start = from + COUNT_BYTES * earlier + BOX_BYTES * front;
+    let count = wire::count_at(sheet, start);
+    let number = first_box(p, sheet, start + COUNT_BYTES, BOX_BYTES, count);
+    Trace::Gate {
+        rule,
+        number,
+        place: front + number,
+    }
+}
+
+// The packet that the rule at a place of A allows: the own rules decide.
+fn trace_own(p: Packet, sheet: &[u8], l: Layout, gate: usize) -> Trace
+    requires { ⌜ Checked (now sheet) l × (first (packetOf p) (laidOut l (now sheet) .order .gate) ≡ found gate 1) ⌝ }
+    ensures { λ r. ⌜ Traced (packetOf p) (laidOut l (now (sheet .entry))) r ⌝ }
+{
+    let own = l.own;
+    let from = l.middle + COUNT_BYTES;
+    let rule = first_box(p, sheet, from, RECORD_BYTES, own);
+    if rule == own {
+        return Trace::Nowhere;
+    }
+    let record = wire::rule_at(sheet, from + RECORD_BYTES * rule);
+    Trace::Own {
+        gate,
+        rule,
+        place: l.boxes + rule,
+        action: record.action,
+    }
+}
+
+// One packet on a sheet that passes check. What no rule of A has is outside the limits, and then no rule of the cell list has it.
+pub fn trace_packet(p: Packet, sheet: &[u8], l: Layout) -> Trace
+    requires { ⌜ Checked (now sheet) l ⌝ }
+    ensures { λ r. ⌜ Traced (packetOf p) (laidOut l (now (sheet .entry))) r ⌝ }
+{
+    let count = l.gate;
+    let rule = first_box(p, sheet, COUNT_BYTES, RECORD_BYTES, count);
+    if rule == count {
+        return Trace::Nowhere;
+    }
+    let record = wire::rule_at(sheet, COUNT_BYTES + RECORD_BYTES * rule);
+    if record.action == 1 {
+        return trace_own(p, sheet, l, rule);
+    }
+    trace_gate(p, sheet, l, rule)
+}
+
+fn put_origin(numbers: &mut [u32], list: u32, place: usize, number: usize)
+    requires { ⌜ (originSize ≤ length (now numbers)) × (place < 65536) × (number < 65536) ⌝ }
+    ensures { λ r. ⌜ now (numbers .exit) ≡ sets (now (numbers .entry)) 0 (list ∷ place ∷ number ∷ []) ⌝ }
+{
+    numbers[0] = list;
+    numbers[1] = place as u32;
+    numbers[2] = number as u32;
+}
+
+// A trace told: the origin as numbers, and the answer of a lookup in the cell list.
+fn tell(t: Trace, numbers: &mut [u32]) -> Answer
+    requires { ⌜ (originSize ≤ length (now numbers)) × Small t ⌝ }
+    ensures { λ r. ⌜ TraceTold t (now (numbers .entry)) r (now (numbers .exit)) ⌝ }
+{
+    match t {
+        Trace::Gate {
+            rule,
+            number,
+            place,
+        } => {
+            put_origin(numbers, 0, rule, number);
+            Answer::Length(2 * place)
+        }
+        Trace::Own {
+            gate: _,
+            rule,
+            place,
+            action,
+        } => {
+            put_origin(numbers, 1, rule, 0);
+            Answer::Length(2 * place + action as usize)
+        }
+        Trace::Nowhere => Answer::Refused(Refusal::NotComplete),
+    }
+}
+
+// Origin: check, then the rule that decides the packet in the cell list, told by where it comes from.
+pub fn origin(p: Packet, sheet: &[u8], numbers: &mut [u32], work: &mut [u8]) -> Answer
+    ensures { λ r. ⌜ Origins (packetOf p) (now (sheet .entry)) (now (numbers .entry)) (now (work .entry)) r (now (numbers .exit)) (now (work .exit)) ⌝ }
+{
+    if numbers.len() < ORIGIN_NUMBERS {
+        return Answer::Refused(Refusal::BufferShort);
+    }
+    if work.len() < WORK_BYTES {
+        return Answer::Refused(Refusal::BufferShort);
+    }
+    match checking::checked(sheet, work) {
+        PairParts::Fault(f) => Answer::Refused(f),
+        PairParts::Parts {
+            gate,
+            own,
+            middle,
+            third,
+            boxes,
+        } => {
+            let l = Layout {
+                gate,
+                own,
+                middle,
+                third,
+                boxes,
+            };
+            tell(trace_packet(p, sheet, l), numbers)
+        }
+    }
+}
