@@ -54,7 +54,7 @@ extern "C" {
 
 /* The least length of each buffer that is written, and how far it is zeroed behind its content. */
 #define FOLDPLOVER_PAIR_SHEET 28742u  /* pair sheet: move, insert, delete, replace */
-#define FOLDPLOVER_WORK 53248u        /* work: move, edits, check, both list calls */
+#define FOLDPLOVER_WORK 53248u        /* work: move, edits, check, both list calls, origin */
 #define FOLDPLOVER_CELL_LIST 27650u   /* list: foldplover_cell_list */
 #define FOLDPLOVER_GATE_LIST 29u      /* list: foldplover_gate_list */
 #define FOLDPLOVER_ORDER_SHEET 8644u  /* order sheet: foldplover_join */
@@ -62,13 +62,14 @@ extern "C" {
 #define FOLDPLOVER_B_LIST 6914u       /* B list: foldplover_split */
 #define FOLDPLOVER_RECORD 27u         /* record: foldplover_record, and every record read */
 #define FOLDPLOVER_NUMBERS 11u        /* a rule as numbers: 5 lows, 5 highs, action */
+#define FOLDPLOVER_ORIGIN 3u          /* numbers: foldplover_origin */
 
 /* Counts. */
 #define FOLDPLOVER_MOST_GATE_RULES 64u
 #define FOLDPLOVER_MOST_OWN_RULES 256u
 #define FOLDPLOVER_MOST_RULES 1024u   /* of a list; of pieces; of boxes and own rules together */
 
-/* The list that an edit changes. */
+/* The list that an edit changes, or that an origin names. */
 #define FOLDPLOVER_A 0u               /* gate rules */
 #define FOLDPLOVER_B 1u               /* the cell's own rules */
 
@@ -209,6 +210,24 @@ struct foldplover_rule {
 uint32_t foldplover_lookup_table(uint32_t src, uint32_t dst, uint32_t sport, uint32_t dport,
                                  uint32_t proto,
                                  const struct foldplover_rule *rules, size_t count);
+
+/*
+ * Checks a pair sheet, looks the packet up in its cell list and says whose rule it was: a gate
+ * rule's box or an own rule. Show people this, 'gate rule 4, its box 2' (both from 0), rather than
+ * the list's place, which nobody finds in the gate's rules.
+ *
+ * Answers 2 x place + action, as foldplover_lookup does in the list that foldplover_cell_list
+ * writes. numbers: the list (FOLDPLOVER_A or FOLDPLOVER_B), the rule's place in it (in A denies and
+ * allows counted), and the number of the box inside the rule's group (0 in B); any further ones
+ * stay. numbers_len counts numbers, not bytes; sheet_len is the pair sheet's own length.
+ * Refuses in this order: 1 (fewer than 3 numbers, work); then as foldplover_check; then 5 (no rule
+ * has the packet, which here means a number above its field's highest).
+ */
+uint32_t foldplover_origin(uint32_t src, uint32_t dst, uint32_t sport, uint32_t dport,
+                           uint32_t proto,
+                           const uint8_t *sheet, size_t sheet_len,
+                           uint32_t *numbers, size_t numbers_len,
+                           uint8_t *work, size_t work_len);
 
 /*
  * Splits an order sheet into its A list and its B list.

@@ -355,6 +355,117 @@ static void test_edits(void)
                  sizeof dairy_groups);
 }
 
+/* What the last call of origin left, its fourth number included. */
+static uint32_t found[FOLDPLOVER_ORIGIN + 1];
+
+static void forget_origin(void)
+{
+    size_t place;
+    for (place = 0; place <= FOLDPLOVER_ORIGIN; place++) {
+        found[place] = UNTOUCHED;
+    }
+    memset(work, UNTOUCHED, sizeof work);
+}
+
+static uint32_t origin(uint32_t dst, uint32_t dport, uint32_t proto, size_t length)
+{
+    forget_origin();
+    return foldplover_origin(1, dst, 5, dport, proto, sheet, length, found, FOLDPLOVER_ORIGIN + 1,
+                             work, sizeof work);
+}
+
+static void expect_found(const char *what, uint32_t which, uint32_t place, uint32_t box)
+{
+    expect(what, found[0], which);
+    expect(what, found[1], place);
+    expect(what, found[2], box);
+    expect("the fourth number", found[FOLDPLOVER_ORIGIN], UNTOUCHED);
+}
+
+static void expect_origin_refused(const char *what, uint32_t got, int number)
+{
+    expect(what, got, REFUSAL(number));
+    expect_found(what, UNTOUCHED, UNTOUCHED, UNTOUCHED);
+}
+
+/* The answers of test_lookup, with the rules behind them: the gate's deny stands at place 1. */
+static void test_origin(void)
+{
+    move_dairy();
+    expect("origin: destination 9", origin(9, 80, 6, PAIR_LENGTH), 0);
+    expect_found("destination 9", FOLDPLOVER_A, 1, 0);
+    expect_all("work after an origin", work, 0, FOLDPLOVER_WORK);
+    expect_all("behind work after an origin", work + FOLDPLOVER_WORK, UNTOUCHED, 1);
+    expect("origin: destination 20", origin(20, 80, 6, PAIR_LENGTH), 2);
+    expect_found("destination 20", FOLDPLOVER_A, 1, 1);
+    expect("origin: destination port 79", origin(15, 79, 6, PAIR_LENGTH), 4);
+    expect_found("destination port 79", FOLDPLOVER_A, 1, 2);
+    expect("origin: destination port 81", origin(15, 81, 6, PAIR_LENGTH), 6);
+    expect_found("destination port 81", FOLDPLOVER_A, 1, 3);
+    expect("origin: destination port 80", origin(15, 80, 6, PAIR_LENGTH), 9);
+    expect_found("destination port 80", FOLDPLOVER_B, 0, 0);
+    expect("origin: three numbers",
+           foldplover_origin(1, 30, 5, 80, 6, sheet, PAIR_LENGTH, found, FOLDPLOVER_ORIGIN, work,
+                             FOLDPLOVER_WORK),
+           9);
+    expect_found("three numbers", FOLDPLOVER_B, 0, 0);
+    expect_dairy("sheet after origins");
+}
+
+/* A deny of destination 30 put in front of the gate's deny, and one of 31 in front of the cell's
+ * own rule: each moves what stands behind it. */
+static void test_origin_after_edits(void)
+{
+    const size_t edited = PAIR_LENGTH + 27 + 2 + 26;
+    uint8_t record[RECORD];
+    move_dairy();
+    memcpy(record, full_allow, RECORD);
+    memset(record + 8, 0, 8);
+    record[11] = record[15] = 30;
+    record[26] = 0;
+    expect("insert a deny of 30", insert(FOLDPLOVER_A, 1, record, RECORD), (uint32_t)edited);
+    record[11] = record[15] = 31;
+    expect("insert a deny of 31",
+           foldplover_insert(sheet, sizeof sheet, edited, FOLDPLOVER_B, 0, record, RECORD, work,
+                             sizeof work),
+           (uint32_t)edited + RECORD);
+    expect("origin: destination 30", origin(30, 80, 6, edited + RECORD), 0);
+    expect_found("destination 30", FOLDPLOVER_A, 1, 0);
+    expect("origin: destination 20, edited", origin(20, 80, 6, edited + RECORD), 4);
+    expect_found("destination 20, edited", FOLDPLOVER_A, 2, 1);
+    expect("origin: destination 31", origin(31, 80, 6, edited + RECORD), 10);
+    expect_found("destination 31", FOLDPLOVER_B, 0, 0);
+    expect("origin: destination 32", origin(32, 80, 6, edited + RECORD), 13);
+    expect_found("destination 32", FOLDPLOVER_B, 1, 0);
+}
+
+static void test_origin_refusals(void)
+{
+    move_dairy();
+    expect_origin_refused("origin: protocol 256", origin(15, 80, 256, PAIR_LENGTH),
+                          FOLDPLOVER_INCOMPLETE);
+    expect_all("work after 5", work, 0, FOLDPLOVER_WORK);
+    expect_origin_refused("origin: port 65,536", origin(15, 65536, 6, PAIR_LENGTH),
+                          FOLDPLOVER_INCOMPLETE);
+    expect_origin_refused("origin: a byte more", origin(9, 80, 6, PAIR_LENGTH + 1),
+                          FOLDPLOVER_MISSING);
+    sheet[PAIR_LENGTH - 1] = 7;
+    expect_origin_refused("origin: another box", origin(9, 80, 6, PAIR_LENGTH), FOLDPLOVER_GROUPS);
+    expect_origin_refused("origin: another box, protocol 256", origin(9, 80, 256, PAIR_LENGTH),
+                          FOLDPLOVER_GROUPS);
+    expect_all("work after 8", work, 0, FOLDPLOVER_WORK);
+    forget_origin();
+    expect_origin_refused("origin: two numbers",
+                          foldplover_origin(1, 9, 5, 80, 6, sheet, PAIR_LENGTH, found, 2, work,
+                                            sizeof work),
+                          FOLDPLOVER_SHORT);
+    expect_origin_refused("origin: short work",
+                          foldplover_origin(1, 9, 5, 80, 6, sheet, PAIR_LENGTH, found, 3, work,
+                                            FOLDPLOVER_WORK - 1),
+                          FOLDPLOVER_SHORT);
+    expect_all("work after origin's 1", work, UNTOUCHED, sizeof work);
+}
+
 static uint32_t remove_rule(size_t used, uint32_t which, size_t place)
 {
     return foldplover_delete(sheet, sizeof sheet, used, which, place, work, sizeof work);
@@ -457,6 +568,9 @@ int main(void)
     test_lookup_table();
     test_lookup();
     test_edits();
+    test_origin();
+    test_origin_after_edits();
+    test_origin_refusals();
     test_edit_refusals();
     test_split_and_join();
     test_record();
