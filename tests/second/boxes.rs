@@ -1,4 +1,5 @@
-//! Ranges, boxes, rules and lists: 01, "The five fields" and "Cutting one box from another".
+//! Ranges, boxes, rules and lists: 01, "The five fields" and "Cutting one box from another"; and
+//! where a rule of the cell list comes from: 02, W1.
 //!
 //! Written to be read beside 01, not to be fast: numbers are `u64` wide so that no sum or
 //! difference comes near an end, lists are vectors, and cutting is a recursion over the fields.
@@ -154,6 +155,35 @@ pub fn groups(gate: &[Rule]) -> Result<Vec<Group>, Refusal> {
 pub fn cell_rules(groups: &[Group], own: &[Rule]) -> Vec<Rule> {
     let denies = groups.iter().flatten().map(|area| Rule::new(area.clone(), Action::Deny));
     denies.chain(own.iter().cloned()).collect()
+}
+
+/// Where a rule of the cell list comes from: a gate rule by its place, denies and allows counted,
+/// with the number of the box in its group, or an own rule by its place.
+#[derive(Clone, Copy, PartialEq, Eq, Debug)]
+pub enum Origin {
+    Gate { place: usize, number: usize },
+    Own { place: usize },
+}
+
+/// The cell list's first rule that has the packet: its place there, its action and its origin. The
+/// gate is walked for its denies, the boxes in each one's group are tried one by one, then the own
+/// rules; which packets a gate rule itself has is not asked.
+pub fn first_origin(
+    gate: &[Rule],
+    groups: &[Group],
+    own: &[Rule],
+    packet: &Packet,
+) -> Option<(usize, Action, Origin)> {
+    let denies = (0..gate.len()).filter(|&place| !gate[place].allows());
+    let boxes = denies.zip(groups).flat_map(|(place, group)| {
+        let origin = move |number| Origin::Gate { place, number };
+        group.iter().enumerate().map(move |(number, area)| (area, Action::Deny, origin(number)))
+    });
+    let own = own.iter().enumerate();
+    let own = own.map(|(place, rule)| (&rule.area, rule.action, Origin::Own { place }));
+    let mut cell = boxes.chain(own).enumerate();
+    let (place, (_, action, origin)) = cell.find(|(_, (area, _, _))| area.has(packet))?;
+    Some((place, action, origin))
 }
 
 /// The moved pair's gate list.

@@ -12,11 +12,11 @@ pub fn shows(fault: &str) -> bool {
     NAME.get_or_init(|| std::env::var("FOLDPLOVER_BROKEN").unwrap_or_default()) == fault
 }
 
-fn accepted(answer: u32) -> bool {
+pub fn accepted(answer: u32) -> bool {
     answer < REFUSED
 }
 
-fn refused(number: u32) -> u32 {
+pub fn refused(number: u32) -> u32 {
     REFUSED + number
 }
 

@@ -1,7 +1,7 @@
 //! The calls on lent buffers: the answer, and what is left in each buffer (01, "Calls", "Numbers
-//! given back").
+//! given back"; 02, W1).
 
-use crate::boxes::{self, Group, Packet, Rule};
+use crate::boxes::{self, Group, Origin, Packet, Rule};
 use crate::refusals::{Fault, Part, Refusal};
 use crate::sheets::{self, OrderSheet, PairSheet, SECTION_A, SECTION_B};
 
@@ -13,6 +13,7 @@ pub const LARGEST_A_LIST: usize = 1_730;
 pub const LARGEST_B_LIST: usize = 6_914;
 pub const WORK: usize = 53_248;
 pub const RULE_NUMBERS: usize = 11;
+pub const ORIGIN_NUMBERS: usize = 3;
 pub const REFUSED: u32 = 65_536;
 
 pub type Answer = Result<u64, Refusal>;
@@ -287,6 +288,26 @@ pub fn lookup_table(packet: &Packet, table: &[u32]) -> Answer {
         }
     }
     Err(refuses(Fault::NoRuleFits))
+}
+
+/// The answer is the lookup's in the cell list of the sheet; the numbers say whose rule it was.
+pub fn origin(packet: &Packet, sheet: &[u8], numbers: &mut [u32], work: &mut [u8]) -> Answer {
+    lent(Part::Numbers, numbers.len(), ORIGIN_NUMBERS)?;
+    lent(Part::Work, work.len(), WORK)?;
+    clear(work);
+    let PairSheet { gate, own, groups } = checked(sheet)?;
+    let (place, action, origin) = boxes::first_origin(&gate, &groups, &own, packet)
+        .ok_or(Refusal::new(Part::Sheet, Fault::NoRuleFits))?;
+    numbers[..ORIGIN_NUMBERS].copy_from_slice(&origin_numbers(origin));
+    Ok(2 * place as u64 + action.number())
+}
+
+/// The list (0 the gate's, 1 the cell's own), the rule's place in it, the box in its group.
+pub fn origin_numbers(origin: Origin) -> [u32; ORIGIN_NUMBERS] {
+    match origin {
+        Origin::Gate { place, number } => [0, place as u32, number as u32],
+        Origin::Own { place } => [1, place as u32, 0],
+    }
 }
 
 pub fn split(order: &[u8], a: &mut [u8], b: &mut [u8]) -> Answer {

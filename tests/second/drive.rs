@@ -102,6 +102,13 @@ impl Driver {
         }
     }
 
+    /// Numbers written by the call, drawn before it; `least` counts numbers.
+    fn numbers(&mut self, least: usize) -> Lent {
+        let count = self.output_length(least);
+        let drawn: Vec<u32> = (0..count).map(|_| self.random.next() as u32).collect();
+        Lent::of_numbers("numbers", &drawn, 0, &mut self.random)
+    }
+
     fn work(&mut self) -> Lent {
         self.output("work", &[], calls::WORK)
     }
@@ -231,8 +238,21 @@ impl Driver {
     }
 
     pub fn lookup_table(&mut self, packet: &Packet, table: &[u32]) -> Answer {
-        let lent = vec![Lent::of_numbers("table", table, table.len())];
+        let lent = vec![Lent::of_numbers("table", table, table.len(), &mut self.random)];
         self.step(Step { call: Call::LookupTable, words: packet.to_vec(), lent }).0
+    }
+
+    /// The origin's three numbers and those behind them come back with the answer.
+    pub fn origin(&mut self, packet: &Packet, sheet: &[u8]) -> (Answer, Vec<u32>) {
+        let sheet = self.input("sheet", sheet);
+        let lent = vec![sheet, self.numbers(calls::ORIGIN_NUMBERS), self.work()];
+        let step = Step { call: Call::Origin, words: packet.to_vec(), lent };
+        let (answer, lent) = self.step(step);
+        let numbers = lent[1].numbers();
+        if answer.is_ok() {
+            self.tally.count_origin(numbers[0]);
+        }
+        (answer, numbers)
     }
 
     /// Both lists, if the sheet was split.
@@ -258,16 +278,15 @@ impl Driver {
 
     pub fn rule(&mut self, record: &[u8]) -> (Answer, Vec<u32>) {
         let record = self.input("record", record);
-        let count = self.output_length(calls::RULE_NUMBERS);
-        let drawn: Vec<u32> = (0..count).map(|_| self.random.next() as u32).collect();
-        let numbers = Lent::of_numbers("numbers", &drawn, 0);
+        let numbers = self.numbers(calls::RULE_NUMBERS);
         let step = Step { call: Call::Rule, words: vec![], lent: vec![record, numbers] };
         let (answer, lent) = self.step(step);
         (answer, lent[1].numbers())
     }
 
     pub fn record(&mut self, numbers: &[u32]) -> (Answer, Vec<u8>) {
-        let numbers = Lent::of_numbers("numbers", numbers, numbers.len());
+        let given = numbers.len();
+        let numbers = Lent::of_numbers("numbers", numbers, given, &mut self.random);
         let record = self.output("record", &[], sheets::RECORD_BYTES);
         let step = Step { call: Call::Record, words: vec![], lent: vec![numbers, record] };
         let (answer, lent) = self.step(step);

@@ -51,11 +51,18 @@ impl Lent {
         lent
     }
 
-    /// A buffer of numbers in the machine's own byte order, where numbers may stand.
-    pub fn of_numbers(name: &'static str, numbers: &[u32], given: usize) -> Lent {
+    /// A buffer of numbers in the machine's own byte order, where numbers may stand: not always
+    /// where something wider may.
+    pub fn of_numbers(
+        name: &'static str,
+        numbers: &[u32],
+        given: usize,
+        random: &mut Random,
+    ) -> Lent {
         let bytes: Vec<u8> = numbers.iter().flat_map(|number| number.to_ne_bytes()).collect();
-        let mut memory = vec![0xa5; 2 * GUARD + bytes.len()];
-        let start = GUARD + memory.as_ptr().wrapping_add(GUARD).align_offset(align_of::<u32>());
+        let before = GUARD + 4 * random.index(4);
+        let mut memory = vec![0xa5; before + bytes.len() + GUARD + align_of::<u32>()];
+        let start = before + memory.as_ptr().wrapping_add(before).align_offset(align_of::<u32>());
         memory[start..start + bytes.len()].copy_from_slice(&bytes);
         Lent { name, given: 4 * given, memory, start, length: bytes.len() }
     }

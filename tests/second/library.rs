@@ -108,6 +108,19 @@ extern "C" {
         rules: *const [u32; 11],
         count: usize,
     ) -> u32;
+    fn foldplover_origin(
+        src: u32,
+        dst: u32,
+        sport: u32,
+        dport: u32,
+        proto: u32,
+        sheet: *const u8,
+        sheet_len: usize,
+        numbers: *mut u32,
+        numbers_len: usize,
+        work: *mut u8,
+        work_len: usize,
+    ) -> u32;
 }
 
 type Buffer = (*mut u8, usize);
@@ -127,6 +140,7 @@ pub fn by_library(call: Call, words: &[u64], lent: &mut [Lent]) -> u32 {
                 let (rules, count) = (table.0.cast(), table.1 / 44);
                 foldplover_lookup_table(src, dst, sport, dport, proto, rules, count)
             }
+            (Call::Origin, &[sheet, numbers, work]) => origin(words, sheet, numbers, work),
             (Call::Insert | Call::Delete | Call::Replace, _) => edit(call, words, &buffers),
             (Call::Rule, &[record, numbers]) => {
                 foldplover_rule(record.0, record.1, numbers.0.cast(), numbers.1 / 4)
@@ -151,6 +165,14 @@ unsafe fn on_three(call: Call, first: Buffer, second: Buffer, third: Buffer) -> 
         Call::Join => foldplover_join(one, first.1, two, second.1, three, third.1),
         _ => unreachable!("every step lends what its call takes"),
     }
+}
+
+unsafe fn origin(words: &[u64], sheet: Buffer, numbers: Buffer, work: Buffer) -> u32 {
+    let [src, dst, sport, dport, proto] = packet(words);
+    let (numbers, count) = (numbers.0.cast(), numbers.1 / 4);
+    foldplover_origin(
+        src, dst, sport, dport, proto, sheet.0, sheet.1, numbers, count, work.0, work.1,
+    )
 }
 
 fn packet(words: &[u64]) -> [u32; 5] {

@@ -14,6 +14,8 @@ mod lent;
 #[cfg(library)]
 mod library;
 #[cfg(library)]
+mod origins;
+#[cfg(library)]
 mod packets;
 mod plan;
 mod random;

@@ -1,12 +1,13 @@
 //! The C surface on top of the model, to try the driver on: as it is, the driver finds nothing;
-//! with FOLDPLOVER_BROKEN set to the name of a fault (see broken.rs), it has to find that fault.
-//! Built as a static library for `selftest.sh` only.
+//! with FOLDPLOVER_BROKEN set to the name of a fault (see broken.rs and broken_origin.rs), it has to
+//! find that fault. Built as a static library for `selftest.sh` only.
 
 // The model has more than these calls need.
 #![allow(dead_code)]
 
 mod boxes;
 mod broken;
+mod broken_origin;
 mod calls;
 mod refusals;
 mod sheets;
@@ -166,6 +167,26 @@ pub unsafe extern "C" fn foldplover_lookup_table(
 ) -> u32 {
     let packet = [src, dst, sport, dport, proto].map(u64::from);
     broken::lookup_table(packet, from_raw_parts(rules, count).as_flattened())
+}
+
+#[no_mangle]
+pub unsafe extern "C" fn foldplover_origin(
+    src: u32,
+    dst: u32,
+    sport: u32,
+    dport: u32,
+    proto: u32,
+    sheet: *const u8,
+    sheet_len: usize,
+    numbers: *mut u32,
+    numbers_len: usize,
+    work: *mut u8,
+    work_len: usize,
+) -> u32 {
+    let packet = [src, dst, sport, dport, proto].map(u64::from);
+    let numbers = from_raw_parts_mut(numbers, numbers_len);
+    let (sheet, work) = (from_raw_parts(sheet, sheet_len), from_raw_parts_mut(work, work_len));
+    broken_origin::origin(packet, sheet, numbers, work)
 }
 
 #[no_mangle]

@@ -1,6 +1,6 @@
 //! Packets at every corner of the rules they are looked up in.
 
-use crate::boxes::{Packet, Range, Rule, FIELDS, HIGHEST};
+use crate::boxes::{Packet, PacketBox, Range, Rule, FIELDS, HIGHEST};
 use crate::random::Random;
 
 const LARGEST_NUMBER: u64 = 4_294_967_295;
@@ -19,17 +19,31 @@ pub fn corners(field: usize, range: Range) -> Vec<u64> {
     values
 }
 
-/// A packet in the rule's box, at its ends mostly.
-pub fn inside(random: &mut Random, rule: &Rule) -> Packet {
-    rule.area.ranges.map(|Range { low, high }| {
+/// A packet in the box, at its ends mostly.
+pub fn inside(random: &mut Random, area: &PacketBox) -> Packet {
+    area.ranges.map(|Range { low, high }| {
         let any = random.within(low, high);
         random.pick(&[low, high, any])
     })
 }
 
+/// A packet in the box but for one field, which is at a corner: in it, beside it, or too high.
+pub fn near(random: &mut Random, area: &PacketBox) -> Packet {
+    let mut packet = inside(random, area);
+    let field = random.index(FIELDS);
+    packet[field] = random.pick(&corners(field, area.ranges[field]));
+    packet
+}
+
+/// Any five numbers, within the fields' limits half of the time.
+pub fn any(random: &mut Random) -> Packet {
+    let limits = random.pick(&[HIGHEST, [LARGEST_NUMBER; FIELDS]]);
+    limits.map(|highest| random.within(0, highest))
+}
+
 /// Packets that leave the rule's box in one field, at every corner of every field.
 pub fn every_corner(random: &mut Random, rule: &Rule) -> Vec<Packet> {
-    let inner = inside(random, rule);
+    let inner = inside(random, &rule.area);
     let with = |field: usize, value: u64| {
         let mut packet = inner;
         packet[field] = value;

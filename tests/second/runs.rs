@@ -72,6 +72,10 @@ impl Run {
         Run { lists: Lists::of(pair), sheet: sheets::pair_bytes(pair) }
     }
 
+    pub fn sheet(&self) -> &[u8] {
+        &self.sheet
+    }
+
     pub fn drawn_edits(&mut self, driver: &mut Driver, shape: &Shape, count: u64) {
         for _ in 0..count {
             let edit = wild_edit(driver, shape, self.lists.counts());
@@ -100,7 +104,7 @@ impl Run {
     }
 }
 
-fn is_about_buffers(answer: Answer) -> bool {
+pub fn is_about_buffers(answer: Answer) -> bool {
     answer.is_err_and(|refusal| matches!(refusal.fault, Fault::ShortBuffer | Fault::StatedLength))
 }
 

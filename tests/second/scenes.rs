@@ -8,6 +8,7 @@ use crate::calls;
 use crate::damage::{self, Layout};
 use crate::draw::{self, Pair, Shape};
 use crate::drive::Driver;
+use crate::origins::{self, Written};
 use crate::packets;
 use crate::rows;
 use crate::runs::{self, Run};
@@ -43,6 +44,7 @@ fn row_scene(driver: &mut Driver, shape: &Shape) {
         };
         driver.demand(result == row.result, row.name, &[("order", &row.order)]);
         if let Ok(length) = answer {
+            origins::hold(driver, &sheet[..length as usize], 40);
             probe_sheet(driver, shape, &sheet[..length as usize]);
         }
     }
@@ -73,6 +75,7 @@ fn pair_scene(driver: &mut Driver, shape: &Shape) {
         look_up(driver, &b, &pair.own);
         look_up(driver, &cell, &pair.gate);
         hold_forwarding(driver, &pair, [&a, &b], [&gate, &cell]);
+        origins::hold_to_lists(driver, sheet, &Written { a, b, cell }, 5);
     }
 }
 
@@ -117,7 +120,9 @@ fn edit_scene(driver: &mut Driver, shape: &Shape) {
     let count = driver.random.within(1, 12);
     driver.move_pair(&pair.order());
     if let Ok(moved) = calls::moved(&pair.order()) {
-        Run::from(&moved).drawn_edits(driver, shape, count);
+        let mut run = Run::from(&moved);
+        run.drawn_edits(driver, shape, count);
+        origins::hold(driver, run.sheet(), 2);
     }
 }
 
@@ -132,6 +137,8 @@ fn probe_sheet(driver: &mut Driver, shape: &Shape, sheet: &[u8]) {
     driver.check(sheet);
     driver.cell_list(sheet);
     driver.gate_list(sheet);
+    let packet = origins::packet_for(&mut driver.random, sheet);
+    driver.origin(&packet, sheet);
     runs::any_edits(driver, shape, sheet, 3);
 }
 
@@ -177,7 +184,7 @@ fn list_damage_scene(driver: &mut Driver, shape: &Shape, pair: &Pair) {
     let place = sheets::COUNT_BYTES + sheets::RECORD_BYTES * driver.random.index(pair.gate.len());
     draw::spoil_record(&mut driver.random, &mut list[place..place + sheets::RECORD_BYTES]);
     for rule in &pair.gate {
-        let packet = packets::inside(&mut driver.random, rule);
+        let packet = packets::inside(&mut driver.random, &rule.area);
         driver.lookup(&packet, &list);
     }
 }
@@ -317,7 +324,7 @@ fn buffer_scene(driver: &mut Driver, shape: &Shape) {
         order = damaged(driver, &layout, order);
     }
     if driver.random.chance(30) {
-        sheet.resize(calls::LARGEST_PAIR_SHEET, 0);
+        sheet.resize(calls::LARGEST_PAIR_SHEET + driver.random.pick(&[0, 1, 40_000]), 0);
     }
     probe_order(driver, &order);
     probe_sheet(driver, shape, &sheet);
@@ -381,6 +388,7 @@ fn lattice_scene(driver: &mut Driver, shape: &Shape) {
             run.edit(driver, &draw::uncovering());
         }
         run.drawn_edits(driver, shape, 2);
+        origins::hold(driver, run.sheet(), 1);
     }
     let Pair { gate, own } = pair;
     let groups = gate.iter().filter(|rule| !rule.allows()).map(|_| Vec::new()).collect();

@@ -1,13 +1,14 @@
-//! The model's own tests: 01's boundary table, its rows, its printed example, and the facts
-//! about cutting and moving, tried packet by packet over small ranges.
+//! The model's own tests: 01's boundary table, its rows, its printed example, origins worked out
+//! by hand, and the facts about cutting, moving and origins, tried packet by packet over small
+//! ranges.
 
-use crate::boxes::{self, Action, Packet, PacketBox, Range, Rule, FIELDS, HIGHEST};
-use crate::calls;
+use crate::boxes::{self, Action, Origin, Packet, PacketBox, Range, Rule, FIELDS, HIGHEST};
+use crate::calls::{self, encode, REFUSED};
 use crate::draw;
 use crate::plan;
 use crate::random::Random;
 use crate::rows::{self, full};
-use crate::sheets;
+use crate::sheets::{self, PairSheet};
 
 const M: u64 = 4_294_967_295;
 
@@ -107,6 +108,97 @@ fn row_table() -> Vec<(&'static str, bool)> {
     table
 }
 
+/// What the call answers to a packet, and four numbers after it, which were 7 before it.
+type Said = (u32, [u32; 4]);
+
+fn said(pair: &PairSheet, packet: &Packet) -> Said {
+    let (mut numbers, mut work) = ([7; 4], vec![7; calls::WORK]);
+    let answer = calls::origin(packet, &sheets::pair_bytes(pair), &mut numbers, &mut work);
+    (encode(answer), numbers)
+}
+
+const fn refused(number: u32) -> Said {
+    (REFUSED + number, [7; 4])
+}
+
+fn moved(gate: &[Rule], own: &[Rule]) -> PairSheet {
+    calls::moved(&sheets::order_bytes(gate, own)).expect("the example moves")
+}
+
+/// An allow stands first, so gate rule 1 has group 0; its boxes are the four that plan prints.
+fn example_origins() -> bool {
+    let (gate, own) = dairy();
+    let pair = moved(&gate, &own);
+    let table: [([u64; 5], Said); 8] = [
+        ([1, 9, 5, 80, 6], (0, [0, 1, 0, 7])),
+        ([1, 20, 5, 80, 6], (2, [0, 1, 1, 7])),
+        ([1, 15, 5, 79, 6], (4, [0, 1, 2, 7])),
+        ([1, 15, 5, 81, 6], (6, [0, 1, 3, 7])),
+        ([1, 15, 5, 80, 6], (9, [1, 0, 0, 7])),
+        ([1, 30, 5, 80, 6], (9, [1, 0, 0, 7])),
+        ([1, 15, 5, 80, 256], refused(5)),
+        ([1, 15, 65_536, 80, 6], refused(5)),
+    ];
+    table.iter().all(|(packet, wanted)| said(&pair, packet) == *wanted)
+}
+
+/// Gate rule 1 has no box left; rule 2 has one, which hides a part of rule 4's two. The cell list
+/// is [10,12]; [10,10], [12,M]; then the own rules.
+fn origins_behind_empty_group() -> bool {
+    let gate = [
+        allow(source(0, 9)),
+        deny(source(3, 5)),
+        deny(source(8, 12)),
+        allow(source(11, 11)),
+        full(Action::Deny),
+    ];
+    let pair = moved(&gate, &[deny(source(0, 4)), full(Action::Allow)]);
+    let table: [(u64, Said); 7] = [
+        (3, (6, [1, 0, 0, 7])),
+        (5, (9, [1, 1, 0, 7])),
+        (9, (9, [1, 1, 0, 7])),
+        (10, (0, [0, 2, 0, 7])),
+        (11, (0, [0, 2, 0, 7])),
+        (13, (4, [0, 4, 1, 7])),
+        (M, (4, [0, 4, 1, 7])),
+    ];
+    table.iter().all(|&(value, wanted)| said(&pair, &[value, 0, 0, 0, 0]) == wanted)
+}
+
+/// The row of 992 boxes: rule 31 is the first of the denies and drops all that is dropped.
+fn comb_origins() -> bool {
+    let pair = moved(&rows::comb(), &rows::own(32));
+    let of = |value| said(&pair, &[value, 0, 0, 0, 0]);
+    of(0) == (0, [0, 31, 0, 7])
+        && of(61) == (60, [0, 31, 30, 7])
+        && of(M) == (62, [0, 31, 31, 7])
+        && of(62) == (2 * 992 + 1, [1, 0, 0, 7])
+}
+
+/// A box for one that A does not give: 8, also for a packet that no rule can have.
+fn stale_origins() -> bool {
+    let mut pair = moved(&[full(Action::Deny)], &rows::own(1));
+    pair.groups[0][0] = source(0, 9);
+    said(&pair, &[1, 0, 0, 0, 0]) == refused(8) && said(&pair, &[1, 0, 0, 0, 256]) == refused(8)
+}
+
+/// 1 comes before anything is read, and touches nothing.
+fn short_origins() -> bool {
+    let (mut numbers, mut work) = ([7; 2], vec![7; calls::WORK]);
+    let answer = calls::origin(&[0; 5], &[], &mut numbers, &mut work);
+    encode(answer) == REFUSED + 1 && numbers == [7; 2] && work == vec![7; calls::WORK]
+}
+
+fn origin_table() -> Vec<(&'static str, bool)> {
+    vec![
+        ("origins in plan's example", example_origins()),
+        ("origins behind an empty group", origins_behind_empty_group()),
+        ("origins behind 992 boxes", comb_origins()),
+        ("no origin on a stale sheet", stale_origins()),
+        ("no origin in two numbers", short_origins()),
+    ]
+}
+
 /// The three largest sheets of 01, from their parts.
 fn size_table() -> Vec<(&'static str, bool)> {
     let (count, record) = (sheets::COUNT_BYTES, sheets::RECORD_BYTES);
@@ -168,18 +260,52 @@ fn moving_holds(random: &mut Random, packets: &[Packet]) -> Option<bool> {
     }))
 }
 
+/// The origin's rule is the cell list's first match. The gate drops the packet by the gate rule
+/// named, or lets it through to the own rule named.
+fn origins_hold(random: &mut Random, packets: &[Packet]) -> Option<bool> {
+    let shape = draw::shape(random);
+    let PairSheet { gate, own, groups } =
+        calls::moved(&draw::small_pair(random, &shape).order()).ok()?;
+    let cell = boxes::cell_rules(&groups, &own);
+    Some(packets.iter().all(|packet| {
+        let found = boxes::first_origin(&gate, &groups, &own, packet);
+        let by_gate = boxes::first_match(&gate, packet);
+        found.map(|(place, action, _)| (place, action)) == boxes::first_match(&cell, packet)
+            && found.is_some_and(|(_, action, origin)| match origin {
+                Origin::Gate { place, .. } => by_gate == Some((place, Action::Deny)),
+                Origin::Own { place } => {
+                    by_gate.is_some_and(|(_, decides)| decides == Action::Allow)
+                        && boxes::first_match(&own, packet) == Some((place, action))
+                }
+            })
+    }))
+}
+
 fn facts() -> Vec<(&'static str, bool)> {
     let (mut random, packets) = (Random::new(1), packets());
     let cutting = (0..300).all(|_| cutting_holds(&mut random, &packets));
     let moves: Vec<bool> = (0..100).filter_map(|_| moving_holds(&mut random, &packets)).collect();
     let moving = moves.len() > 90 && moves.iter().all(|&held| held);
-    vec![("cutting, packet by packet", cutting), ("moving, packet by packet", moving)]
+    let found: Vec<bool> = (0..100).filter_map(|_| origins_hold(&mut random, &packets)).collect();
+    let origins = found.len() > 90 && found.iter().all(|&held| held);
+    vec![
+        ("cutting, packet by packet", cutting),
+        ("moving, packet by packet", moving),
+        ("origins, packet by packet", origins),
+    ]
 }
 
 /// Prints a line for each test; whether all held.
 pub fn run() -> bool {
-    let tables =
-        [cutting_table(), list_table(), printed_example(), row_table(), size_table(), facts()];
+    let tables = [
+        cutting_table(),
+        list_table(),
+        printed_example(),
+        row_table(),
+        origin_table(),
+        size_table(),
+        facts(),
+    ];
     let tests = tables.concat();
     for (name, held) in &tests {
         println!("{} {name}", if *held { "ok    " } else { "FAILED" });

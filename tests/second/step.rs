@@ -19,10 +19,11 @@ pub enum Call {
     Rule,
     Record,
     LookupTable,
+    Origin,
 }
 
 /// The calls of the surface.
-pub const CALLS: [Call; 13] = [
+pub const CALLS: [Call; 14] = [
     Call::Move,
     Call::Insert,
     Call::Delete,
@@ -36,6 +37,7 @@ pub const CALLS: [Call; 13] = [
     Call::Rule,
     Call::Record,
     Call::LookupTable,
+    Call::Origin,
 ];
 
 impl Call {
@@ -54,6 +56,7 @@ impl Call {
             Call::Rule => "rule",
             Call::Record => "record",
             Call::LookupTable => "lookup_table",
+            Call::Origin => "origin",
         }
     }
 }
@@ -71,6 +74,13 @@ pub fn by_model(call: Call, words: &[u64], lent: &mut [Lent]) -> Answer {
         (Call::Rule, [record, numbers]) => {
             let mut values = numbers.numbers();
             let answer = calls::rule(record.bytes(), &mut values);
+            numbers.set_numbers(&values);
+            answer
+        }
+        (Call::Origin, [sheet, numbers, work]) => {
+            let mut values = numbers.numbers();
+            let packet = packet(words);
+            let answer = calls::origin(&packet, sheet.bytes(), &mut values, work.bytes_mut());
             numbers.set_numbers(&values);
             answer
         }

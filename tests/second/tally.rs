@@ -7,11 +7,14 @@ use crate::refusals::{Fault, Part, Refusal};
 use crate::step::{Call, CALLS};
 
 const NUMBERS: u32 = 9;
+const ORIGIN_LISTS: [&str; 2] = ["gate", "own"];
 
 #[derive(Default)]
 pub struct Tally {
     accepted: BTreeMap<Call, u64>,
     refused: BTreeMap<(Call, Refusal), u64>,
+    /// Accepted origins by the number of the list that they name.
+    origins: [u64; ORIGIN_LISTS.len()],
 }
 
 impl Tally {
@@ -21,6 +24,11 @@ impl Tally {
             Err(refusal) => self.refused.entry((call, refusal)).or_default(),
         };
         *counter += 1;
+    }
+
+    /// Beside the call itself, which is counted as every other is.
+    pub fn count_origin(&mut self, list: u32) {
+        self.origins[list as usize] += 1;
     }
 
     fn of_number(&self, call: Call, number: u32) -> u64 {
@@ -44,8 +52,12 @@ impl Tally {
         }
     }
 
-    /// The same by ground: which part of what was lent is at fault, and how.
+    /// The same by ground: which part of what was lent is at fault, and how. An origin is also
+    /// accepted on two grounds.
     pub fn print_grounds(&self) {
+        for (list, count) in ORIGIN_LISTS.iter().zip(self.origins) {
+            println!("{:12} accepted from {list} {count}", Call::Origin.name());
+        }
         for ((call, refusal), count) in &self.refused {
             let Refusal { part, fault } = refusal;
             println!("{:12} {} {part:?} {fault:?} {count}", call.name(), refusal.number());
@@ -65,6 +77,8 @@ impl Tally {
                 }
             }
         }
+        let never = ORIGIN_LISTS.iter().zip(self.origins).filter(|(_, count)| *count == 0);
+        missing.extend(never.map(|(list, _)| format!("origin accepted from {list}")));
         missing
     }
 }
@@ -132,6 +146,10 @@ fn possible(call: Call) -> Vec<Refusal> {
             let faults =
                 [CountMissing, CountLimits, RecordsMissing, LeftOver, BadRecord, NoRuleFits];
             grounds(Part::List, &faults)
+        }
+        Call::Origin => {
+            let last = grounds(Part::Sheet, &[NoRuleFits]);
+            [short(&[Part::Numbers]), checking(), last].concat()
         }
         Call::Split => [short(&[Part::A, Part::B]), reading_order()].concat(),
         Call::Join => {
