@@ -8,6 +8,7 @@ mod inputs;
 mod lookup;
 mod measure;
 mod moving;
+mod origin;
 mod planner;
 mod plants;
 mod reading;
@@ -31,5 +32,6 @@ fn main() {
     moving::run();
     println!();
     checking::run();
+    origin::run();
     editing::run();
 }

@@ -28,8 +28,8 @@ pub fn median(mut times: Vec<f64>) -> f64 {
     times[times.len() / 2]
 }
 
-// The median of each version over rounds in which each has its turn; `measure` gives the nanoseconds of one turn.
-pub fn medians<F: Copy>(versions: &[Version<F>], mut measure: impl FnMut(F) -> f64) -> Vec<f64> {
+// What each version takes in rounds in which each has its turn; `measure` gives the nanoseconds of one turn.
+pub fn turns<F: Copy>(versions: &[Version<F>], mut measure: impl FnMut(F) -> f64) -> Vec<Vec<f64>> {
     let mut times = vec![Vec::new(); versions.len()];
     for round in 0..ROUNDS {
         for turn in 0..versions.len() {
@@ -37,7 +37,12 @@ pub fn medians<F: Copy>(versions: &[Version<F>], mut measure: impl FnMut(F) -> f
             times[v].push(measure(versions[v].1));
         }
     }
-    times.into_iter().map(median).collect()
+    times
+}
+
+// The median of each version over such rounds.
+pub fn medians<F: Copy>(versions: &[Version<F>], measure: impl FnMut(F) -> f64) -> Vec<f64> {
+    turns(versions, measure).into_iter().map(median).collect()
 }
 
 // The head of a table: the sizes, the versions, and the first version's time over that of each of the others.
@@ -49,10 +54,19 @@ pub fn head<F>(what: &str, sizes: &[&str], versions: &[Version<F>]) {
     println!();
 }
 
+// A number to so many digits, or a dash for one that the rounds do not tell.
+fn figure(x: f64, digits: usize) -> String {
+    if x.is_nan() {
+        "-".to_string()
+    } else {
+        format!("{x:.digits$}")
+    }
+}
+
 pub fn row(what: &str, sizes: &[usize], medians: &[f64]) {
     print!("  {what:<38}");
     sizes.iter().for_each(|s| print!("{s:>7}"));
-    medians.iter().for_each(|m| print!("{m:>12.0}"));
-    medians[1..].iter().for_each(|m| print!("{:>13.2}", medians[0] / m));
+    medians.iter().for_each(|m| print!("{:>12}", figure(*m, 0)));
+    medians[1..].iter().for_each(|m| print!("{:>13}", figure(medians[0] / m, 2)));
     println!();
 }

@@ -9,6 +9,7 @@ pub const OWN: usize = 256;
 pub const MOST: usize = 1024;
 pub const SHEET: usize = 28_742;
 pub const WORK: usize = 53_248;
+pub const CELL_LIST: usize = 27_650;
 pub const REFUSED: u32 = 65_536;
 
 #[derive(Clone, Copy, PartialEq, Eq)]

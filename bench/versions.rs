@@ -1,6 +1,7 @@
 // The three planners under one shape: the library, plain C and safe Rust.
+use crate::lookup::Packet;
 use crate::planner;
-use crate::sheets::{SHEET, WORK};
+use crate::sheets::{CELL_LIST, SHEET, WORK};
 
 #[derive(Clone, Copy, PartialEq, Eq)]
 pub enum Change {
@@ -38,6 +39,27 @@ extern "C" {
         work_len: usize,
     ) -> u32;
     fn foldplover_check(sheet: *const u8, sheet_len: usize, work: *mut u8, work_len: usize) -> u32;
+    fn foldplover_cell_list(
+        sheet: *const u8,
+        sheet_len: usize,
+        list: *mut u8,
+        list_len: usize,
+        work: *mut u8,
+        work_len: usize,
+    ) -> u32;
+    fn foldplover_origin(
+        src: u32,
+        dst: u32,
+        sport: u32,
+        dport: u32,
+        proto: u32,
+        sheet: *const u8,
+        sheet_len: usize,
+        numbers: *mut u32,
+        numbers_len: usize,
+        work: *mut u8,
+        work_len: usize,
+    ) -> u32;
     fn foldplover_insert(
         sheet: *mut u8,
         sheet_len: usize,
@@ -94,6 +116,9 @@ pub enum Planner {
 pub const PLANNERS: [(&str, Planner); 3] =
     [("library", Planner::Library), ("plain C", Planner::PlainC), ("safe Rust", Planner::SafeRust)];
 
+// Origin's answer and its three numbers: the list, the rule's place in it and the box's number in its group.
+pub type Found = (u32, [u32; 3]);
+
 // The buffers that the calls are lent. Only the library has a work buffer lent; the others keep their own.
 pub struct Desk {
     pub sheet: Vec<u8>,
@@ -124,6 +149,22 @@ impl Desk {
             Planner::PlainC => unsafe { plain_check(s.as_ptr(), s.len()) },
             Planner::SafeRust => planner::check(s),
         }
+    }
+
+    // The list to load into the cell, from the sheet's first bytes.
+    pub fn cell_list(&mut self, used: usize) -> Vec<u8> {
+        let (s, w, mut list) = (&self.sheet[..used], &mut self.work, vec![0; CELL_LIST]);
+        let length =
+            unsafe { foldplover_cell_list(s.as_ptr(), s.len(), list.as_mut_ptr(), list.len(), w.as_mut_ptr(), w.len()) };
+        list.truncate(length as usize);
+        list
+    }
+
+    pub fn origin(&mut self, p: &Packet, used: usize) -> Found {
+        let (s, w, mut n) = (&self.sheet[..used], &mut self.work, [0; 3]);
+        let (np, wp) = (n.as_mut_ptr(), w.as_mut_ptr());
+        let answer = unsafe { foldplover_origin(p[0], p[1], p[2], p[3], p[4], s.as_ptr(), s.len(), np, n.len(), wp, w.len()) };
+        (answer, n)
     }
 
     pub fn edit(&mut self, planner: Planner, used: usize, e: &Edit) -> u32 {
