@@ -97,10 +97,11 @@ fn trace_gate(p: Packet, sheet: &[u8], l: Layout, rule: usize) -> Trace
     let start = from + COUNT_BYTES * earlier + BOX_BYTES * front;
     let count = wire::count_at(sheet, start);
     let number = first_box(p, sheet, start + COUNT_BYTES, BOX_BYTES, count);
+    let place = front + number;
     Trace::Gate {
         rule,
         number,
-        place: front + number,
+        place,
     }
 }
 
@@ -116,10 +117,11 @@ fn trace_own(p: Packet, sheet: &[u8], l: Layout, gate: usize) -> Trace
         return Trace::Nowhere;
     }
     let record = wire::rule_at(sheet, from + RECORD_BYTES * rule);
+    let place = l.boxes + rule;
     Trace::Own {
         gate,
         rule,
-        place: l.boxes + rule,
+        place,
         action: record.action,
     }
 }
@@ -162,7 +164,8 @@ fn tell(t: Trace, numbers: &mut [u32]) -> Answer
             place,
         } => {
             put_origin(numbers, 0, rule, number);
-            Answer::Length(2 * place)
+            let value = 2 * place;
+            Answer::Length(value)
         }
         Trace::Own {
             gate: _,
@@ -171,7 +174,8 @@ fn tell(t: Trace, numbers: &mut [u32]) -> Answer
             action,
         } => {
             put_origin(numbers, 1, rule, 0);
-            Answer::Length(2 * place + action as usize)
+            let value = 2 * place + action as usize;
+            Answer::Length(value)
         }
         Trace::Nowhere => Answer::Refused(Refusal::NotComplete),
     }

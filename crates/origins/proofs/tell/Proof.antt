@@ -11,10 +11,10 @@ enum-known-t c = search needs
 put-origin-requires : tie.Need-put-origin-requires
 put-origin-requires c κs =
     let f = small-gate _ _ _ (c .before .before .t .given .1) (c .before .before .before .before .before .pre .1) in
-    (c .before .before .before .before .before .pre .0, f .0, f .1)
+    (c .before .before .before .before .before .pre .0, omega (arith, f .0, f .2), omega (arith, f .1, f .2))
 
-mul-t13 : tie.Need-mul-t13
-mul-t13 c =
+mul-value : tie.Need-mul-value
+mul-value c =
     let f = small-gate _ _ _ (c .before .before .before .before .before .t .given .1) (c .before .before .before .before .before .before .before .before .pre .1) in
     search needs
 
@@ -24,18 +24,18 @@ enum-known-t-2 c = search needs
 put-origin-requires-2 : tie.Need-put-origin-requires-2
 put-origin-requires-2 c κs =
     let f = small-own _ _ _ _ (c .before .before .t2 .given .1) (c .before .before .before .before .before .pre .1) in
-    (c .before .before .before .before .before .pre .0, f .0, omega arith)
+    (c .before .before .before .before .before .pre .0, omega (arith, f .0, f .1), omega arith)
 
-mul-t17 : tie.Need-mul-t17
-mul-t17 c =
+mul-value-2 : tie.Need-mul-value-2
+mul-value-2 c =
     let f = small-own _ _ _ _ (c .before .before .before .before .before .t2 .given .1) (c .before .before .before .before .before .before .before .before .pre .1) in
     search needs
 
-cast-t18 : tie.Need-cast-t18
-cast-t18 c = search needs
+cast-value : tie.Need-cast-value
+cast-value c = search needs
 
-add-t19 : tie.Need-add-t19
-add-t19 c =
+add-value : tie.Need-add-value
+add-value c =
     let f = small-own _ _ _ _ (c .before .before .before .before .before .t2 .given .1) (c .before .before .before .before .before .before .before .before .pre .1) in
     search needs
 
@@ -67,12 +67,12 @@ tell-spec =
     (tie.spec
     enum-known-t
     put-origin-requires
-    mul-t13
+    mul-value
     enum-known-t-2
     put-origin-requires-2
-    mul-t17
-    cast-t18
-    add-t19
+    mul-value-2
+    cast-value
+    add-value
     enum-told
     same-length
     returns

@@ -78,8 +78,8 @@ add-first-box c = let h = inside (c .before) in search needs
 first-box-requires : tie.Need-first-box-requires
 first-box-requires c κs = (omega arith, whole (c .before) (c .count-at .result) (c .count-at .ensures .0))
 
-add-t16 : tie.Need-add-t16
-add-t16 c =
+add-place : tie.Need-add-place
+add-place c =
     let a = c .before .before in
     let h = whole a (c .before .count-at .result) (c .before .count-at .ensures .0) in
     let k = number-within (packet a) boxSize (c .before .count-at .result) (drop (place a + countSize) (start a .args .sheet .now)) in
@@ -108,5 +108,5 @@ trace-gate-spec =
     count-at-requires
     add-first-box
     first-box-requires
-    add-t16
+    add-place
     returns)

@@ -44,8 +44,8 @@ add-rule-at c = let h = inside (c .before) (c .if1 .left) in search needs
 rule-at-requires : tie.Need-rule-at-requires
 rule-at-requires c κs = inside (c .before) (c .if1 .left)
 
-add-t10 : tie.Need-add-t10
-add-t10 c =
+add-place : tie.Need-add-place
+add-place c =
     let a = c .before .before .before in
     let h = inside a (c .before .before .if1 .left) in
     let k = checked a .place .totalLimit in
@@ -66,5 +66,5 @@ trace-own-spec =
     mul-rule-at
     add-rule-at
     rule-at-requires
-    add-t10
+    add-place
     returns-2)
