@@ -1,6 +1,6 @@
 #!/bin/sh
 # Builds the static library and tests it from outside: the C surface as C11 and as C++, then the driver of the second program,
-# which holds every call against the model, with the desk example between them. Fails with the first that fails.
+# which holds every call against the model, with the two example programs between them. Fails with the first that fails.
 set -eu
 cd "$(dirname "$0")/.."
 library=target/staticlib/libfoldplover.a
@@ -30,6 +30,20 @@ for name in dairy:137 plant:9425; do
 done
 [ ! -e target/refused.gate ]
 [ ! -e target/refused.cell ]
+
+# The origin example: the packet that README tells of, one that an own rule forwards, one that no rule has, and a refused sheet.
+tests/x86 gcc -std=c11 $flags -o target/origin examples/origin.c $library
+origin() {
+    words=$1 status=0
+    # shellcheck disable=SC2086
+    tests/x86 run target/origin $words >target/origin.txt || status=$?
+    echo "$2" | cmp - target/origin.txt
+    [ "$status" = "$3" ]
+}
+origin 'examples/plant.order 10.10.4.2 10.30.1.17 50000 502 6' 'dropped by gate rule 12, its box 0 (place 7 of the cell list)' 0
+origin 'examples/plant.order 10.20.8.3 10.30.1.17 50000 102 6' 'forwarded by own rule 3 (place 340 of the cell list)' 0
+origin 'examples/plant.order 10.20.8.3 10.30.1.17 50000 102 256' "no rule: a number is above its field's highest" 1
+origin 'examples/refused.order 10.20.8.3 10.30.1.17 50000 102 6' 'refused 6' 1
 
 tests/x86 rustc -O --edition 2021 --cfg library -L native=target/staticlib -o target/drive tests/second/main.rs
 # 20,000 cases, in two halves at a time. Each half's report has to end with the words that every answer was met in it.
