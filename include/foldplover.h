@@ -62,7 +62,7 @@ extern "C" {
 #define FOLDPLOVER_B_LIST 6914u       /* B list: foldplover_split */
 #define FOLDPLOVER_RECORD 27u         /* record: foldplover_record, and every record read */
 #define FOLDPLOVER_NUMBERS 11u        /* a rule as numbers: 5 lows, 5 highs, action */
-#define FOLDPLOVER_ORIGIN 3u          /* numbers: foldplover_origin */
+#define FOLDPLOVER_ORIGIN 3u          /* foldplover_origin, in numbers and not in bytes */
 
 /* Counts. */
 #define FOLDPLOVER_MOST_GATE_RULES 64u
@@ -81,7 +81,7 @@ enum foldplover_refusal {
     FOLDPLOVER_COUNT = 2,           /* a list without a rule, or with more than it may have */
     FOLDPLOVER_MISSING = 3,         /* input too short or too long; a record not of 27 bytes */
     FOLDPLOVER_BAD_RULE = 4,        /* a range or an action that cannot be */
-    FOLDPLOVER_INCOMPLETE = 5,      /* no full rule at the end; in a lookup, none has the packet */
+    FOLDPLOVER_INCOMPLETE = 5,      /* no full rule at the end; no rule has the packet */
     FOLDPLOVER_TOO_MANY_PIECES = 6, /* over 1,024 pieces of one deny rule after some allow */
     FOLDPLOVER_TOO_MANY_BOXES = 7,  /* boxes and own rules together exceed 1,024 */
     FOLDPLOVER_GROUPS = 8,          /* wrong number of groups; groups not what A gives */
@@ -171,8 +171,9 @@ uint32_t foldplover_gate_list(const uint8_t *sheet, size_t sheet_len,
                               uint8_t *work, size_t work_len);
 
 /*
- * Finds the first rule of a list that has the packet. Both ports are 0 where the protocol has
- * none. A number above its field's highest is in no rule.
+ * Finds the first rule of a list that has the packet. An address is a plain number: 10.10.4.2 is
+ * 0x0A0A0402. Both ports are 0 where the protocol has none. A number above its field's highest is
+ * in no rule.
  *
  * Answers 2 x place + action. Writes nothing. The list need not be complete, and no record behind
  * the rule found is looked at. A filter lets the packet through only where the answer is below
@@ -212,16 +213,19 @@ uint32_t foldplover_lookup_table(uint32_t src, uint32_t dst, uint32_t sport, uin
                                  const struct foldplover_rule *rules, size_t count);
 
 /*
- * Checks a pair sheet, looks the packet up in its cell list and says whose rule it was: a gate
- * rule's box or an own rule. Show people this, 'gate rule 4, its box 2' (both from 0), rather than
- * the list's place, which nobody finds in the gate's rules.
+ * Checks a pair sheet, looks the packet up in its cell list, and says whose rule decides it: a rule
+ * of A by one of its boxes, or a rule of B. The packet is given as in foldplover_lookup.
  *
  * Answers 2 x place + action, as foldplover_lookup does in the list that foldplover_cell_list
- * writes. numbers: the list (FOLDPLOVER_A or FOLDPLOVER_B), the rule's place in it (in A denies and
- * allows counted), and the number of the box inside the rule's group (0 in B); any further ones
- * stay. numbers_len counts numbers, not bytes; sheet_len is the pair sheet's own length.
+ * writes. Test for FOLDPLOVER_REFUSED first: some refusals are odd, and numbers is then as it was.
+ * numbers: the list (FOLDPLOVER_A or FOLDPLOVER_B) and the rule's place in it, as an edit takes
+ * them (in A denies and allows count), and the number of the box inside the rule's group (0 in B);
+ * any further ones stay. Show people the rule, or its place with the words 'counted from 0': the
+ * answer's place is one of the cell list, and another rule has that place in A.
+ * numbers_len counts numbers, not bytes; sheet_len is the pair sheet's own length, which move or
+ * the last edit answered.
  * Refuses in this order: 1 (fewer than 3 numbers, work); then as foldplover_check; then 5 (no rule
- * has the packet, which here means a number above its field's highest).
+ * has the packet: a number is above its field's highest. Where check refuses with 5, so does this).
  */
 uint32_t foldplover_origin(uint32_t src, uint32_t dst, uint32_t sport, uint32_t dport,
                            uint32_t proto,

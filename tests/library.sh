@@ -31,19 +31,26 @@ done
 [ ! -e target/refused.gate ]
 [ ! -e target/refused.cell ]
 
-# The origin example: the packet that README tells of, one that an own rule forwards, one that no rule has, and a refused sheet.
+# The origin example: the packet that README tells of, one that an own rule forwards, one that no rule has, a refused sheet, and
+# words that are no packet or no file.
 tests/x86 gcc -std=c11 $flags -o target/origin examples/origin.c $library
 origin() {
     words=$1 status=0
     # shellcheck disable=SC2086
-    tests/x86 run target/origin $words >target/origin.txt || status=$?
-    echo "$2" | cmp - target/origin.txt
+    tests/x86 run target/origin $words >target/origin.txt 2>target/origin.log || status=$?
+    printf "$2" | cmp - target/origin.txt
     [ "$status" = "$3" ]
 }
-origin 'examples/plant.order 10.10.4.2 10.30.1.17 50000 502 6' 'dropped by gate rule 12, its box 0 (place 7 of the cell list)' 0
-origin 'examples/plant.order 10.20.8.3 10.30.1.17 50000 102 6' 'forwarded by own rule 3 (place 340 of the cell list)' 0
-origin 'examples/plant.order 10.20.8.3 10.30.1.17 50000 102 256' "no rule: a number is above its field's highest" 1
-origin 'examples/refused.order 10.20.8.3 10.30.1.17 50000 102 6' 'refused 6' 1
+any='0.0.0.0-255.255.255.255'
+origin 'examples/plant.order 10.10.4.2 10.30.1.17 50000 502 6' \
+    "dropped by gate rule 12 (from 0), its box 0; place 7 of the cell list\ndeny $any $any 0-65535 502-502 6-6\n" 0
+origin 'examples/plant.order 10.20.8.3 10.30.1.17 50000 102 6' \
+    "forwarded by own rule 3 (from 0); place 340 of the cell list\nallow $any 10.30.1.0-10.30.1.255 0-65535 0-65535 6-6\n" 0
+origin 'examples/plant.order 10.20.8.3 10.30.1.17 50000 102 256' "no rule: a number is above its field's highest\n" 1
+origin 'examples/refused.order 10.20.8.3 10.30.1.17 50000 102 6' 'refused 6\n' 1
+origin 'examples/plant.order 10.20.8 10.30.1.17 50000 102 6' '' 2
+origin 'examples/plant.order 10.20.8.3 10.30.1.17 50000 -1 6' '' 2
+origin 'examples/none.order 10.20.8.3 10.30.1.17 50000 102 6' '' 2
 
 tests/x86 rustc -O --edition 2021 --cfg library -L native=target/staticlib -o target/drive tests/second/main.rs
 # 20,000 cases, in two halves at a time. Each half's report has to end with the words that every answer was met in it.

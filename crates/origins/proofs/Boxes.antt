@@ -1,5 +1,5 @@
 -- A packet held against one box, and boxes tried one after another. Assumes nothing.
-use mathlib.Core.Path.{_≡_, refl, ap, sym, _∙_}
+use mathlib.Core.Path.{_≡_, refl, ap, _∙_}
 use mathlib.Core.List.{List, _∷_}
 use mathlib.Core.Bool.{Bool, true, false, cond}
 use Prim.Native.Nat.{ℕ, zero, suc, _+_, _*_, _-_, _≤_, _<_}
@@ -9,7 +9,6 @@ use lib.Seq.{drop-drop}
 use borrow.Author.Tests.{le-leb, lt-leb}
 use Rattle.policy.specs.Fields.{recordSize}
 use Rattle.policy.specs.Ranges.{Range, Region, Packet, within, inside}
-use Rattle.policy.specs.Rules.{Rule}
 use Rattle.policy.specs.Steps.{boxNumber}
 use Rattle.policy.proofs.Origins.{regions}
 use Rattle.wire.specs.Records.{boxIn, ruleIn, rulesIn, eachIn}

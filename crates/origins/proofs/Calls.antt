@@ -1,13 +1,13 @@
 -- The call: its two tests, check's refusals, and a trace told; and two outcomes of one call are equal. Assumes nothing.
-use mathlib.Core.Path.{_≡_, refl, ap, sym, _∙_, subst}
+use mathlib.Core.Path.{_≡_, refl, sym, _∙_}
 use mathlib.Core.List.{List}
-use mathlib.Core.Bool.{Bool, true, false}
+use mathlib.Core.Bool.{true, false}
 use Prim.Native.Nat.{ℕ, _+_, _*_, _<_, _≤_}
 use native.Mathlib.Omega.{arith}
 use lib.ListN.{length}
 use Rattle.policy.specs.Fields.{limits, workSize}
 use Rattle.policy.specs.Ranges.{Packet}
-use Rattle.policy.specs.Refusals.{refusalBase, accepted, refused, numberOf}
+use Rattle.policy.specs.Refusals.{refusalBase, accepted}
 use Rattle.policy.specs.Move.{cellList}
 use Rattle.policy.specs.Origins.{HasOrigin, placeOf}
 use Rattle.policy.specs.declared.Answer.{Answer}
@@ -22,7 +22,7 @@ use Rattle.sheet.proofs.Outcomes.{faultless, through}
 use Rattle.planner.specs.Calls.{workAfter, bothLent, checkOf}
 use Rattle.planner.proofs.Calls.{room-short, work-short, both-there}
 use Rattle.checking.specs.Steps.{CheckRead}
-use Rattle.origins.specs.Origin.{Decision, decision, originOf, originSize, originCall, valueOf, Origins}
+use Rattle.origins.specs.Origin.{Decision, originOf, originSize, originCall, valueOf, Origins}
 use Rattle.origins.specs.Steps.{laidOut, Checked, traceHeard, Traced, Small, TraceTold}
 use Rattle.origins.specs.declared.Layout.{Layout}
 use Rattle.origins.specs.declared.Trace.{Trace}

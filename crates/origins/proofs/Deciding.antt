@@ -1,20 +1,20 @@
 -- Whose rule decides on a sheet that passes check: a box of the gate's rule, an own rule, or none. Assumes nothing.
 use mathlib.Core.Path.{_≡_, refl, ap, sym, _∙_, subst}
 use mathlib.Core.List.{List, []}
-use mathlib.Core.Bool.{Bool, true, false, not, _&&_}
-use Prim.Native.Nat.{ℕ, _+_, _<_, _≤_}
+use mathlib.Core.Bool.{true, false}
+use Prim.Native.Nat.{ℕ, _<_, _≤_}
 use native.Mathlib.Omega.{arith}
 use lib.ListN.{length, getD}
 use Rattle.policy.specs.Fields.{limits}
 use Rattle.policy.specs.Ranges.{Packet}
-use Rattle.policy.specs.Rules.{Rule, rule, complete, Found, found, nothing, firstFrom, first, saysAllow, saysDrop, allows, drops, inLimits}
-use Rattle.policy.specs.Refusals.{Outcome, accepted, refused, faults}
-use Rattle.policy.specs.Move.{Order, Pair, moved, together, cellList}
+use Rattle.policy.specs.Rules.{rule, complete, Found, found, nothing, firstFrom, first, drops}
+use Rattle.policy.specs.Refusals.{accepted, refused, faults}
+use Rattle.policy.specs.Move.{Pair, moved, together, cellList}
 use Rattle.policy.specs.Demands.{groupAt}
 use Rattle.policy.specs.Origins.{Origin, gateRule, ownRule, originAt, placeOf, HasOrigin}
 use Rattle.policy.specs.Steps.{boxNumber}
 use Rattle.policy.proofs.Refused.{listRefusal}
-use Rattle.policy.proofs.Edits.{move-accepted, list-accepted}
+use Rattle.policy.proofs.Edits.{list-accepted}
 use Rattle.policy.proofs.Moves.{above-from, nothing-above}
 use Rattle.policy.proofs.Places.{place-back}
 use Rattle.policy.proofs.Origins.{regions, first-found, first-nothing, own-decides, box-there, box-decides}

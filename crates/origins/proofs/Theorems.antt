@@ -1,25 +1,25 @@
 -- The theorems on origins. Assumes nothing.
-use mathlib.Core.Path.{_≡_, refl, ap, sym, _∙_, subst}
+use mathlib.Core.Path.{_≡_, refl, ap, sym, _∙_}
 use mathlib.Core.List.{List, []}
 use mathlib.Core.Bool.{Bool, true, false}
-use Prim.Native.Nat.{ℕ, suc, zero, _+_, _<_, _≤_}
+use Prim.Native.Nat.{ℕ, suc, zero, _+_, _≤_}
 use native.Mathlib.Omega.{arith}
 use lib.Dec.{ltb}
 use lib.ListN.{length, getD}
 use borrow.Author.Tests.{ltb-true, ltb-false}
 use Rattle.policy.specs.Fields.{limits}
-use Rattle.policy.specs.Ranges.{Packet, inside}
-use Rattle.policy.specs.Rules.{Rule, rule, Found, found, nothing, first, saysDrop, saysAllow, allows, drops, inLimits}
+use Rattle.policy.specs.Ranges.{Packet}
+use Rattle.policy.specs.Rules.{Rule, rule, Found, found, nothing, first, saysDrop, saysAllow, drops, inLimits}
 use Rattle.policy.specs.Refusals.{Outcome, accepted, refused}
 use Rattle.policy.specs.Move.{Pair, cellList}
 use Rattle.policy.specs.Demands.{groupAt}
-use Rattle.policy.specs.Origins.{Origin, gateRule, ownRule, placeOf, ruleFrom, HasOrigin}
+use Rattle.policy.specs.Origins.{gateRule, ownRule, placeOf, ruleFrom, HasOrigin}
 use Rattle.policy.specs.Steps.{boxNumber}
 use Rattle.policy.proofs.Moves.{above-from, nothing-above}
 use Rattle.policy.proofs.Places.{place-back}
 use Rattle.policy.proofs.Origins.{regions, number-has, first-found, found-number}
 use Rattle.sheet.proofs.Outcomes.{faultless}
-use Rattle.filter.specs.Lookup.{Hit, hit, lookup, decidedBy}
+use Rattle.filter.specs.Lookup.{hit, lookup, decidedBy}
 use Rattle.filter.proofs.Lists.{look-first, lookup-first}
 use Rattle.filter.proofs.Verdicts.{look-small}
 use Rattle.planner.specs.Calls.{checkOf, cellBytes}

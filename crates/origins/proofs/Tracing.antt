@@ -1,26 +1,25 @@
 -- A packet traced in the bytes of a sheet that passes check: what each part of the code finds there, as the definitions have it.
 -- Assumes nothing.
-use mathlib.Core.Path.{_≡_, refl, ap, sym, _∙_, subst}
-use mathlib.Core.List.{List, [], _∷_}
-use mathlib.Core.Bool.{Bool, true, false}
+use mathlib.Core.Path.{_≡_, refl, ap, sym, _∙_}
+use mathlib.Core.List.{List, []}
+use mathlib.Core.Bool.{false}
 use Prim.Native.Nat.{ℕ, zero, suc, _+_, _*_, _-_, _<_, _≤_}
 use native.Mathlib.Omega.{arith}
 use lib.ListN.{length, getD, take, drop, length-drop}
 use lib.Seq.{drop-drop, take-all}
 use Rattle.lists.proofs.Parts.{tail-whole}
-use Rattle.policy.specs.Fields.{limits, countSize, recordSize, boxSize}
+use Rattle.policy.specs.Fields.{countSize, recordSize, boxSize}
 use Rattle.policy.specs.Ranges.{Region, Packet}
-use Rattle.policy.specs.Rules.{Rule, rule, isAllow, Found, found, first, saysDrop, drops, denies}
-use Rattle.policy.specs.Refusals.{accepted}
+use Rattle.policy.specs.Rules.{Rule, rule, isAllow, found, first, saysDrop, drops, denies}
 use Rattle.policy.specs.Move.{Pair, together}
 use Rattle.policy.specs.Demands.{groupAt}
-use Rattle.policy.specs.Origins.{HasOrigin, gateRule, ownRule, placeOf}
+use Rattle.policy.specs.Origins.{HasOrigin, placeOf}
 use Rattle.policy.specs.Steps.{boxNumber}
 use Rattle.policy.proofs.Kept.{deny-counts}
 use Rattle.policy.proofs.Origins.{regions, first-found, first-nothing}
-use Rattle.wire.specs.Records.{boxIn, ruleIn, rulesIn, boxesIn, eachIn}
+use Rattle.wire.specs.Records.{boxIn, ruleIn, rulesIn, eachIn}
 use Rattle.wire.specs.Lists.{countIn}
-use Rattle.wire.proofs.Records.{rulesIn-length, boxesIn-length, rule-in-place}
+use Rattle.wire.proofs.Records.{rulesIn-length, rule-in-place}
 use Rattle.sheet.specs.Pairs.{groupSize, groupBoxes}
 use Rattle.sheet.specs.Steps.{rulesOf, groupsFrom, boxCount}
 use Rattle.draft.specs.Steps.{runSize}

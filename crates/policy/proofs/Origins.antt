@@ -13,7 +13,7 @@ use Rattle.lists.proofs.Tests.{or-false}
 use Rattle.lists.proofs.Lists.{each-append}
 use Rattle.policy.specs.Fields.{highest}
 use Rattle.policy.specs.Ranges.{Region, Packet, inside, Whole}
-use Rattle.policy.specs.Rules.{Rule, rule, isAllow, Found, found, nothing, firstFrom, first, drops, denies}
+use Rattle.policy.specs.Rules.{Rule, rule, isAllow, found, nothing, firstFrom, first, drops, denies}
 use Rattle.policy.specs.Cut.{group, anyHas}
 use Rattle.policy.specs.Refusals.{faults}
 use Rattle.policy.specs.Move.{anew, startOf, slots, boxesOf, together, Order, moved, denials, cellList}

@@ -1,7 +1,7 @@
 -- A place of the cell list and its origin give each other back. Assumes nothing.
-use mathlib.Core.Path.{_≡_, refl, ap, sym, _∙_, subst}
+use mathlib.Core.Path.{_≡_, refl, ap, _∙_}
 use mathlib.Core.List.{List, [], _∷_, _++_}
-use mathlib.Core.Bool.{Bool, true, false, cond, true≢false}
+use mathlib.Core.Bool.{Bool, true, false, cond}
 use Prim.Native.Nat.{ℕ, zero, suc, _+_, _-_, _≤_, _<_}
 use native.Mathlib.Omega.{arith}
 use lib.Dec.{ltb}
@@ -11,7 +11,7 @@ use borrow.Author.Tests.{lt-ltb, le-ltb, ltb-true, ltb-false}
 use Rattle.policy.specs.Ranges.{Region}
 use Rattle.policy.specs.Rules.{Rule, rule, isAllow, denies}
 use Rattle.policy.specs.Move.{Pair, together, denials, cellList}
-use Rattle.policy.specs.Origins.{Origin, gateRule, ownRule, originFrom, originAt, placeOf, ruleFrom, HasOrigin, PlaceBack, PlaceBackTheorem}
+use Rattle.policy.specs.Origins.{Origin, gateRule, ownRule, originFrom, originAt, placeOf, ruleFrom, HasOrigin, PlaceBackTheorem}
 
 -- the boxes before the group of the rule at a place, and that group
 abbrev front : List Rule → List (List Region) → ℕ → List Region

@@ -2,13 +2,11 @@
 use borrow.Author.Needs.{needs}
 use native.Mathlib.Omega.{arith}
 use mathlib.Core.Path.{_≡_, ap, sym, _∙_}
-use mathlib.Core.Bool.{true, false}
 use Prim.Native.Nat.{suc, _+_, _-_, _≤_, _<_}
-use lib.ListN.{length, drop}
+use lib.ListN.{length}
 use Rattle.policy.specs.Fields.{boxSize}
 use Rattle.policy.specs.Ranges.{inside}
 use Rattle.policy.specs.Values.{packetOf}
-use Rattle.wire.specs.Records.{boxIn}
 use Rattle.origins.proofs.Boxes.{Left, left-all, left-none, box-inside, box-has, box-misses}
 use Rattle.origins.proofs.first_box.Statement.{statement}
 use Rattle.origins.proofs.first_box.Tie as tie

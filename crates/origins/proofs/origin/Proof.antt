@@ -1,6 +1,5 @@
 -- `origin` meets its contract. Assumes nothing.
 use borrow.Author.Needs.{needs}
-use Rattle.policy.specs.Values.{packetOf}
 use Rattle.origins.specs.Steps.{Checked}
 use Rattle.origins.specs.declared.Layout.{Layout}
 use Rattle.origins.proofs.Calls.{check-laid, traced-small, numbers-short, work-too-short, origin-refused, origin-told}
