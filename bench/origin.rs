@@ -1,5 +1,6 @@
 // Origin: the rule of A or B that decides a packet, found by the pair sheet. Beside it the check that the call begins with and the
-// lookup in the cell list, which gives the same answer and walks over all boxes before; then its search alone, without the check.
+// lookup in the cell list, which gives the same answer and walks over all boxes before the rule found; then its search alone, without
+// the check.
 use crate::inputs::{self, Input, DENY};
 use crate::lookup::{library as lookup, Packet};
 use crate::measure::{head, median, row, timed, turns, Version};

@@ -404,6 +404,7 @@ static void test_origin(void)
     expect_found("destination port 81", FOLDPLOVER_A, 1, 3);
     expect("origin: destination port 80", origin(15, 80, 6, PAIR_LENGTH), 9);
     expect_found("destination port 80", FOLDPLOVER_B, 0, 0);
+    forget_origin();
     expect("origin: three numbers",
            foldplover_origin(1, 30, 5, 80, 6, sheet, PAIR_LENGTH, found, FOLDPLOVER_ORIGIN, work,
                              FOLDPLOVER_WORK),

@@ -7,7 +7,7 @@ use crate::calls::{self, encode, ORIGIN_NUMBERS, WORK};
 use crate::sheets::{self, PairSheet};
 
 pub fn origin(mut packet: Packet, sheet: &[u8], numbers: &mut [u32], work: &mut [u8]) -> u32 {
-    let (before, work_before) = (numbers.to_vec(), work.to_vec());
+    let (numbers_before, work_before) = (numbers.to_vec(), work.to_vec());
     // Three numbers are twelve bytes.
     if shows("origin-wants-12-numbers") && numbers.len() < 12 {
         return refused(1);
@@ -17,22 +17,22 @@ pub fn origin(mut packet: Packet, sheet: &[u8], numbers: &mut [u32], work: &mut 
     }
     let answer = encode(calls::origin(&packet, sheet, numbers, work));
     if answer == refused(1) {
-        return numbers_confused(&packet, sheet, numbers, work);
+        return short_confused(&packet, sheet, numbers, work);
     }
-    let answer = order_confused(answer, &packet, sheet, numbers);
+    let answer = refusal_confused(answer, &packet, sheet, numbers);
     spoil_work(answer, &work_before, work);
     spoil_numbers(answer, numbers);
     match sheets::read_pair(sheet) {
         Ok(pair) if accepted(answer) && numbers[0] == 0 => {
             gate_confused(answer, &packet, &pair, numbers)
         }
-        Ok(_) if accepted(answer) => own_confused(answer, numbers, &before),
+        Ok(_) if accepted(answer) => own_confused(answer, numbers, &numbers_before),
         _ => answer,
     }
 }
 
 /// Where too few numbers are lent, or too little work.
-fn numbers_confused(packet: &Packet, sheet: &[u8], numbers: &mut [u32], work: &mut [u8]) -> u32 {
+fn short_confused(packet: &Packet, sheet: &[u8], numbers: &mut [u32], work: &mut [u8]) -> u32 {
     if work.len() < WORK {
         return refused(1);
     }
@@ -52,7 +52,7 @@ fn numbers_confused(packet: &Packet, sheet: &[u8], numbers: &mut [u32], work: &m
     refused(1)
 }
 
-fn order_confused(answer: u32, packet: &Packet, sheet: &[u8], numbers: &mut [u32]) -> u32 {
+fn refusal_confused(answer: u32, packet: &Packet, sheet: &[u8], numbers: &mut [u32]) -> u32 {
     let above = packet.iter().zip(HIGHEST).any(|(&value, highest)| value > highest);
     if shows("origin-5-before-check") && above {
         return refused(5);

@@ -1,4 +1,4 @@
-//! Whose rule it was (02, W1): packets to ask it for, and on sheets that the check accepts origins
+//! Whose rule it was (02, W1): packets to ask for, and origins on sheets that the check accepts,
 //! held against lookups in the lists that the library itself writes.
 
 use crate::boxes::{Packet, PacketBox};
@@ -45,9 +45,12 @@ pub struct Written {
 
 impl Written {
     /// None where a list's buffer was drawn too short.
-    fn of(driver: &mut Driver, sheet: &[u8], pair: &PairSheet) -> Option<Written> {
-        let rules = pair.gate.len() + pair.own.len();
-        let (a, b) = driver.split(&sheet[..2 * COUNT_BYTES + rules * RECORD_BYTES])?;
+    fn of(driver: &mut Driver, sheet: &[u8]) -> Option<Written> {
+        let end = |from: usize| {
+            let count = u16::from_be_bytes([sheet[from], sheet[from + 1]]);
+            from + COUNT_BYTES + RECORD_BYTES * usize::from(count)
+        };
+        let (a, b) = driver.split(&sheet[..end(end(0))])?;
         let (answer, cell) = driver.cell_list(sheet);
         answer.is_ok().then_some(Written { a, b, cell })
     }
@@ -55,19 +58,14 @@ impl Written {
 
 /// Origins on a sheet that the check accepts, as a move or an edit wrote it.
 pub fn hold(driver: &mut Driver, sheet: &[u8], count: u64) {
-    let pair = accepted_pair(sheet);
-    if let Some(lists) = Written::of(driver, sheet, &pair) {
+    if let Some(lists) = Written::of(driver, sheet) {
         hold_to_lists(driver, sheet, &lists, count);
     }
 }
 
-fn accepted_pair(sheet: &[u8]) -> PairSheet {
-    sheets::read_pair(sheet).expect("a sheet that the check accepts reads well")
-}
-
 /// The same where the lists are there already.
 pub fn hold_to_lists(driver: &mut Driver, sheet: &[u8], lists: &Written, count: u64) {
-    let pair = accepted_pair(sheet);
+    let pair = sheets::read_pair(sheet).expect("a sheet that the check accepts reads well");
     for _ in 0..count {
         let packet = packet_of(&mut driver.random, &pair);
         let (answer, numbers) = driver.origin(&packet, sheet);

@@ -2,17 +2,18 @@
 use mathlib.Core.Path.{_≡_, refl, ap, sym, _∙_}
 use mathlib.Core.List.{List, [], _∷_}
 use mathlib.Core.Bool.{Bool, true, false, cond}
-use Prim.Native.Nat.{ℕ, suc}
+use Prim.Native.Nat.{ℕ, suc, _<_, _≤_}
 use native.Mathlib.Omega.{arith}
 use lib.ListN.{length}
 use Rattle.lists.specs.Lists.{Each}
 use Rattle.policy.specs.Ranges.{Packet, inside}
-use Rattle.policy.specs.Rules.{Rule, Found, found, firstFrom}
+use Rattle.policy.specs.Rules.{Rule, Found, found, firstFrom, first}
 use Rattle.policy.specs.Refusals.{Outcome, accepted, faults}
 use Rattle.policy.proofs.Moves.{faults-cons}
 use Rattle.wire.proofs.Records.{RuleFits, sound-fits}
 use Rattle.filter.specs.Lookup.{Hit, hit, lookFrom, LookupTheorem, decidedBy}
 use Rattle.filter.proofs.Lookups.{good-head}
+use Rattle.filter.proofs.Verdicts.{look-small}
 use Rattle.wire.specs.Lists.{listBytes}
 use Rattle.wire.proofs.Lists.{listBytes-length, list-count, list-rules}
 
@@ -33,6 +34,10 @@ look-first n p [] h = refl
 look-first n p (r ∷ l) h =
     let g = faults-cons r l h in
     rw (g .0) (turn (inside p (r .region)) n (r .action) (lookFrom (suc n) p l) (firstFrom (suc n) p l) (look-first (suc n) p l (g .1)))
+
+-- What first match finds there: a place of the list, and an action that is 0 or 1.
+pub found-small : (p : Packet) (l : List Rule) (i a : ℕ) → faults l ≡ 0 → first p l ≡ found i a → (i < length l) × (a ≤ 1)
+found-small p l i a h e = let s = look-small 0 p l (hit i a) (look-first 0 p l h ∙ ap decidedBy e) in (omega (arith, s .0), s .1)
 
 -- Lookup in the bytes of a list with no fault answers by first match.
 pub lookup-first : LookupTheorem

@@ -10,14 +10,13 @@ use borrow.Author.Tests.{lt-ltb}
 use Rattle.policy.specs.Fields.{limits}
 use Rattle.policy.specs.Ranges.{Packet}
 use Rattle.policy.specs.Rules.{Rule, Found, found, nothing, saysAllow, first, allows}
-use Rattle.policy.specs.Refusals.{refusalBase, Outcome, accepted}
+use Rattle.policy.specs.Refusals.{refusalBase, Outcome, accepted, refused, said}
 use Rattle.policy.specs.Move.{Order, Pair, gateList, cellList}
 use Rattle.policy.proofs.Refused.{listRefusal}
 use Rattle.policy.proofs.Edits.{list-accepted}
 use Rattle.wire.specs.Lists.{listBytes}
-use Rattle.filter.specs.Lookup.{Hit, hit, lookupNumber, decidedBy}
-use Rattle.filter.proofs.Lists.{look-first, lookup-first}
-use Rattle.filter.proofs.Verdicts.{look-small}
+use Rattle.filter.specs.Lookup.{Hit, lookup, lookupNumber, decidedBy}
+use Rattle.filter.proofs.Lists.{found-small, lookup-first}
 use Rattle.sheet.specs.Pairs.{pairBytes, pairSize}
 use Rattle.sheet.proofs.Outcomes.{faultless}
 use Rattle.sheet.proofs.Orders.{list-faultless, order-faultless}
@@ -26,7 +25,11 @@ use Rattle.wire.proofs.Buffers.{filled-content}
 use Rattle.planner.specs.Calls.{bothLent, checkOf, Lists, gateBytes, gateListSize, cellBytes, cellListSize}
 use Rattle.planner.proofs.Calls.{call-accepted, call-content}
 use Rattle.planner.proofs.Theorems.{move-call-holds}
-use Rattle.foldplover.specs.Loaded.{letsThrough, passes, Wrote, LoadedTheorem}
+use Rattle.origins.specs.Origin.{Decision, originOf, originCall, valueOf}
+use Rattle.origins.specs.Theorems.{hitOf}
+use Rattle.origins.proofs.Theorems.{origin-agrees}
+use Rattle.foldplover.specs.Coded.{coded}
+use Rattle.foldplover.specs.Loaded.{letsThrough, passes, Wrote, LoadedTheorem, OriginLookupTheorem}
 
 -- the number that a lookup gives for C tells whether the rule that decides is an allow
 number-allows : (most : ℕ) (x : Found) → 2 * most ≤ refusalBase → ((n a : ℕ) → x ≡ found n a → (n < most) × (a ≤ 1)) → letsThrough (lookupNumber (decidedBy x)) ≡ saysAllow x
@@ -44,7 +47,7 @@ passes-list most q l h e =
     let f = faultless most l e in
     let clean = list-accepted most l e .0 in
     ap (λ (x : Outcome Hit). letsThrough (lookupNumber x)) (lookup-first (limits .total) q l clean (f .few) (omega (arith, f .many)) (omega arith))
-    ∙ number-allows most (first q l) (omega arith) (λ n a i. let s = look-small 0 q l (hit n a) (look-first 0 q l clean ∙ ap decidedBy i) in (omega (arith, f .many), s .1))
+    ∙ number-allows most (first q l) (omega arith) (λ n a i. let s = found-small q l n a clean i in (omega (arith, f .many), s .1))
 
 -- what an accepted list call of a sheet that check accepts as p wrote
 listed-is : (bytes : Pair → List ℕ) (size : ℕ) (sheet list : List ℕ) (p : Pair) → checkOf limits sheet ≡ accepted p → Wrote (Lists bytes size sheet) list → list ≡ bytes p
@@ -77,3 +80,17 @@ loaded-forwards s sheet a b gate cell bytes split move g c q =
       both = rw (old-gate, old-cell, new-gate, new-cell) (two .forwarded q);
       cell-first = rw (old-gate, old-cell, new-cell) (two .cell-first q);
     }
+
+-- the number of an origin is that of the lookup for its hit
+origin-coded : (x : Outcome Decision) → coded (valueOf x) ≡ lookupNumber (hitOf x)
+unfolding valueOf lookupNumber
+origin-coded (accepted d) = refl
+origin-coded (refused k) = refl
+
+pub origin-as-lookup : OriginLookupTheorem
+unfolding originCall
+origin-as-lookup p s ns w ns′ w′ cell n lent wrote told =
+    let c = call-accepted cellBytes cellListSize (bothLent cellListSize (wrote .out) (wrote .work)) (checkOf limits s) (wrote .call) in
+    let a : said (told .answer) ≡ valueOf (originOf limits p s) = told .below .answer ∙ rw lent refl in
+    let is = listed-is cellBytes cellListSize s cell (c .value) (c .is) wrote in
+    told .number ∙ (ap coded a ∙ (origin-coded (originOf limits p s) ∙ ap lookupNumber (origin-agrees p s (c .value) (c .is) .answer ∙ ap (lookup (limits .total) p) (sym is))))

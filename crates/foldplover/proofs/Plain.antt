@@ -3,7 +3,7 @@
 use mathlib.Core.Path.{_≡_, refl, ap, sym, subst, _∙_}
 use mathlib.Core.List.{List}
 use mathlib.Core.Bool.{Bool, _&&_}
-use Prim.Native.Nat.{ℕ, _+_, _*_, _<_}
+use Prim.Native.Nat.{ℕ, _<_}
 use native.Mathlib.Omega.{arith}
 use lib.Dec.{leb}
 use lib.ListN.{length}
@@ -22,6 +22,7 @@ use Rattle.orders.specs.Split.{splitOf, Split, firstBytes}
 use Rattle.orders.specs.Join.{joinOf, Join}
 use Rattle.planner.specs.Calls.{Call, checkOf, Checks}
 use Rattle.planner.proofs.Lengths.{filled-within, call-length}
+use Rattle.filter.specs.Lookup.{lookupNumber}
 use Rattle.origins.specs.Origin.{Decision, originCall, valueOf, Origins}
 use Rattle.origins.proofs.Calls.{value-small}
 use Rattle.foldplover.specs.Coded.{Plain}
@@ -76,7 +77,7 @@ join-plain {a = a} {b = b} {out = out} x e =
     subst Plain (sym (x .answer)) (join-small a b out (joinOf limits a b out) refl (sym (ap length (x .sheet)) ∙ e))
 
 -- Origin: a place of the cell list and an action.
-value-plain : (x : Outcome Decision) → ((d : Decision) → x ≡ accepted d → 2 * d .hit .place + d .hit .action < refusalBase) → Plain (valueOf x)
+value-plain : (x : Outcome Decision) → ((d : Decision) → x ≡ accepted d → lookupNumber (accepted (d .hit)) < refusalBase) → Plain (valueOf x)
 unfolding valueOf
 value-plain (accepted d) h = h d refl
 value-plain (refused k) h = tt

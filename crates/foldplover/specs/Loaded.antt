@@ -1,7 +1,8 @@
--- What two filters do that have loaded what the calls write, by the firmware's own lookup (01, Calls; demand 2). Assumes nothing.
+-- What two filters do that have loaded what the calls write, by the firmware's own lookup (01, Calls; demand 2), and what origin says of
+-- it. Assumes nothing.
 use mathlib.Core.Path.{_≡_}
 use mathlib.Core.List.{List}
-use mathlib.Core.Bool.{Bool, _&&_}
+use mathlib.Core.Bool.{Bool, true, _&&_}
 use Prim.Native.Nat.{ℕ, _-_, _%_}
 use lib.Dec.{ltb, eqb}
 use lib.ListN.{length, take}
@@ -14,7 +15,9 @@ use Rattle.policy.specs.declared.Answer.the-variants.{Length}
 use Rattle.wire.specs.Numbers.{Byte}
 use Rattle.filter.specs.Lookup.{lookup, lookupNumber}
 use Rattle.orders.specs.Split.{Split}
-use Rattle.planner.specs.Calls.{Moves, Lists, gateBytes, gateListSize, cellBytes, cellListSize}
+use Rattle.planner.specs.Calls.{bothLent, Moves, Lists, gateBytes, gateListSize, cellBytes, cellListSize}
+use Rattle.origins.specs.Origin.{originSize, Origins}
+use Rattle.foldplover.specs.Coded.{Coded}
 
 -- A filter lets a packet through where the number that the lookup in its list's bytes gives for C is no refusal and odd: an allow.
 abbrev pub letsThrough : ℕ → Bool
@@ -55,3 +58,10 @@ abbrev pub LoadedTheorem : Type 0
 LoadedTheorem =
     (s sheet a b gate cell : List ℕ) → Each Byte s → SplitInto s a b → Wrote (Moves s) sheet
     → Wrote (Lists gateBytes gateListSize sheet) gate → Wrote (Lists cellBytes cellListSize sheet) cell → (q : Packet) → LoadsAlike a b gate cell q
+
+-- 02, W1: of a sheet whose cell list was written, C gets the same number from origin, where enough is lent, as from a lookup in that
+-- list, 5 included.
+abbrev pub OriginLookupTheorem : Type 0
+OriginLookupTheorem =
+    (p : Packet) (s ns w ns′ w′ cell : List ℕ) (n : ℕ) → bothLent originSize ns w ≡ true → Wrote (Lists cellBytes cellListSize s) cell
+    → Coded (λ q. Origins p s ns w q ns′ w′) n → n ≡ lookupNumber (lookup (limits .total) p cell)

@@ -13,16 +13,13 @@ use Rattle.policy.specs.Steps.{boxNumber}
 use Rattle.policy.proofs.Origins.{regions}
 use Rattle.wire.specs.Records.{boxIn, ruleIn, rulesIn, eachIn}
 
--- one value and one range
+-- a value below a range or above it
 module _ (x : ℕ) (r : Range) where
   pub below-low : x < r .low → within x r ≡ false
   below-low h = rw (lt-leb (r .low) x h) refl
 
   pub above-high : r .low ≤ x → r .high < x → within x r ≡ false
   above-high l h = rw (le-leb (r .low) x l, lt-leb x (r .high) h) refl
-
-  pub between : r .low ≤ x → x ≤ r .high → within x r ≡ true
-  between l h = rw (le-leb (r .low) x l, le-leb x (r .high) h) refl
 
 -- Boxes in bytes, each so many bytes behind the one before it.
 module _ (p : Packet) (size : ℕ) where

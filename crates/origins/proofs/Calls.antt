@@ -2,13 +2,12 @@
 use mathlib.Core.Path.{_≡_, refl, sym, _∙_}
 use mathlib.Core.List.{List}
 use mathlib.Core.Bool.{true, false}
-use Prim.Native.Nat.{ℕ, _+_, _*_, _<_, _≤_}
+use Prim.Native.Nat.{ℕ, _<_, _≤_}
 use native.Mathlib.Omega.{arith}
 use lib.ListN.{length}
 use Rattle.policy.specs.Fields.{limits, workSize}
 use Rattle.policy.specs.Ranges.{Packet}
 use Rattle.policy.specs.Refusals.{refusalBase, accepted}
-use Rattle.policy.specs.Move.{cellList}
 use Rattle.policy.specs.Origins.{HasOrigin, placeOf}
 use Rattle.policy.specs.declared.Answer.{Answer}
 use Rattle.policy.specs.declared.Answer.the-variants.{Refused}
@@ -22,12 +21,13 @@ use Rattle.sheet.proofs.Outcomes.{faultless, through}
 use Rattle.planner.specs.Calls.{workAfter, bothLent, checkOf}
 use Rattle.planner.proofs.Calls.{room-short, work-short, both-there}
 use Rattle.checking.specs.Steps.{CheckRead}
+use Rattle.filter.specs.Lookup.{lookupNumber}
 use Rattle.origins.specs.Origin.{Decision, originOf, originSize, originCall, valueOf, Origins}
 use Rattle.origins.specs.Steps.{laidOut, Checked, traceHeard, Traced, Small, TraceTold}
 use Rattle.origins.specs.declared.Layout.{Layout}
 use Rattle.origins.specs.declared.Trace.{Trace}
 use Rattle.origins.specs.declared.Trace.the-variants.{Gate, Own, Nowhere}
-use Rattle.origins.proofs.Deciding.{good, cell-faultless, decided}
+use Rattle.origins.proofs.Deciding.{good, decided}
 
 -- the parts that check gives
 pub check-laid : {s : List ℕ} (l : Layout) → CheckRead s (P.Parts (l .gate) (l .own) (l .middle) (l .third) (l .boxes)) → Checked s l
@@ -39,13 +39,12 @@ pub traced-small : {s : List ℕ} {l : Layout} → Checked s l → (p : Packet) 
 unfolding traceHeard Small HasOrigin placeOf
 traced-small {s} {l} c p (Gate rule number place) x =
     let d = decided s (laidOut l s) (c .checks) p _ (sym (x .says)) in
-    let f = faultless (limits .total) _ (cell-faultless s (laidOut l s) (c .checks)) in
     let g = faultless (limits .gate) _ (good s (laidOut l s) (c .checks) .gate) in
-    (omega (arith, d .has .0, g .many), omega (arith, d .place, d .back, f .many), omega (arith, d .place, f .many))
-traced-small {s} {l} c p (Own gate rule place action) x =
+    (omega (arith, d .has .0, g .many), omega (arith, d .place, d .back), d .place)
+traced-small {s} {l} c p (Own passed rule place action) x =
     let d = decided s (laidOut l s) (c .checks) p _ (sym (x .says)) in
-    let f = faultless (limits .total) _ (cell-faultless s (laidOut l s) (c .checks)) in
-    (omega (arith, d .place, d .back, f .many), omega (arith, d .place, f .many), d .action)
+    let g = faultless (limits .own) _ (good s (laidOut l s) (c .checks) .own) in
+    (omega (arith, d .has, g .many), d .place, d .action)
 traced-small c p Nowhere x = tt
 
 module _ (p : Packet) (s ns w : List ℕ) where
@@ -80,11 +79,10 @@ module _ (p : Packet) (s ns w : List ℕ) where
   origin-once {r = r} {r′ = r′} x y = (said-once r r′ (x .answer ∙ sym (y .answer)), x .numbers ∙ sym (y .numbers), x .work ∙ sym (y .work))
 
   -- what is answered is below every refusal
-  pub value-small : (d : Decision) → originCall p s ns w ≡ accepted d → 2 * d .hit .place + d .hit .action < refusalBase
-  unfolding originCall originOf
+  pub value-small : (d : Decision) → originCall p s ns w ≡ accepted d → lookupNumber (accepted (d .hit)) < refusalBase
+  unfolding originCall originOf lookupNumber
   value-small d e =
       let t = test-accepted (bothLent originSize ns w) 1 (originOf limits p s) e in
       let q = through (checkOf limits s) _ d (t .1) in
       let k = decided s (q .value) (q .first) p d (q .then) in
-      let f = faultless (limits .total) (cellList (q .value)) (cell-faultless s (q .value) (q .first)) in
-      omega (arith, k .place, k .action, f .many)
+      omega (arith, k .place, k .action)

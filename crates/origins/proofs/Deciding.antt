@@ -1,13 +1,15 @@
 -- Whose rule decides on a sheet that passes check: a box of the gate's rule, an own rule, or none. Assumes nothing.
 use mathlib.Core.Path.{_≡_, refl, ap, sym, _∙_, subst}
 use mathlib.Core.List.{List, []}
-use mathlib.Core.Bool.{true, false}
+use mathlib.Core.Bool.{Bool, true, false}
 use Prim.Native.Nat.{ℕ, _<_, _≤_}
 use native.Mathlib.Omega.{arith}
+use lib.Dec.{ltb}
 use lib.ListN.{length, getD}
+use borrow.Author.Tests.{ltb-true, ltb-false}
 use Rattle.policy.specs.Fields.{limits}
 use Rattle.policy.specs.Ranges.{Packet}
-use Rattle.policy.specs.Rules.{rule, complete, Found, found, nothing, firstFrom, first, drops}
+use Rattle.policy.specs.Rules.{rule, complete, Found, found, nothing, firstFrom, first, saysDrop, inLimits}
 use Rattle.policy.specs.Refusals.{accepted, refused, faults}
 use Rattle.policy.specs.Move.{Pair, moved, together, cellList}
 use Rattle.policy.specs.Demands.{groupAt}
@@ -18,13 +20,13 @@ use Rattle.policy.proofs.Edits.{list-accepted}
 use Rattle.policy.proofs.Moves.{above-from, nothing-above}
 use Rattle.policy.proofs.Places.{place-back}
 use Rattle.policy.proofs.Origins.{regions, first-found, first-nothing, own-decides, box-there, box-decides}
+use Rattle.sheet.proofs.Outcomes.{faultless}
 use Rattle.sheet.proofs.Pairs.{PairGood, pair-good}
 use Rattle.planner.specs.Calls.{checkOf}
 use Rattle.planner.proofs.Good.{cell-list-good}
 use Rattle.planner.proofs.Demands.{limits-small, CheckedPair, checked-pair}
-use Rattle.filter.specs.Lookup.{hit, decidedBy}
-use Rattle.filter.proofs.Lists.{look-first}
-use Rattle.filter.proofs.Verdicts.{look-small}
+use Rattle.filter.specs.Lookup.{hit}
+use Rattle.filter.proofs.Lists.{found-small}
 use Rattle.origins.specs.Origin.{Decision, decision}
 
 -- A decision by its origin: the place is the origin's.
@@ -40,6 +42,9 @@ module _ (s : List ℕ) (q : Pair) (checks : checkOf limits s ≡ accepted q) wh
 
   pub gate-clean : (faults (q .order .gate) ≡ 0) × (complete (q .order .gate) ≡ true)
   gate-clean = list-accepted (limits .gate) (q .order .gate) (good .gate)
+
+  own-clean : (faults (q .order .own) ≡ 0) × (complete (q .order .own) ≡ true)
+  own-clean = list-accepted (limits .own) (q .order .own) (good .own)
 
   pub cell-faultless : listRefusal (limits .total) (cellList q) ≡ 0
   cell-faultless = subst (λ (x : Pair). listRefusal (limits .total) (cellList x) ≡ 0) (sym (known .moved)) (cell-list-good limits (q .order) (known .none))
@@ -68,42 +73,55 @@ module _ (s : List ℕ) (q : Pair) (checks : checkOf limits s ≡ accepted q) wh
           at-origin p (box q) 0 has-box
           (subst (λ (x : Pair). first p (cellList x) ≡ found (placeOf x (box x)) 0) (sym (known .moved)) (box-decides (q .order) p (gate-clean .0) j dropped))
 
-    -- it did not
-    module _ (passed : drops p (q .order .gate) ≡ false) where
+    -- it allowed the packet: then it is inside the limits, and an own rule has it
+    module _ (j : ℕ) (allowed : first p (q .order .gate) ≡ found j 1) where
+      out-of-limits : inLimits p ≡ false → ⊥
+      out-of-limits h =
+          let e : nothing ≡ found j 1 = sym (above-from p (q .order .gate) 0 (gate-clean .0) h) ∙ allowed in
+          let z : _≡_ {A = ℕ} 0 1 = cc in
+          omega arith
+
+      pub own-has : boxNumber p (regions (q .order .own)) < length (q .order .own)
+      own-has = go (ltb (boxNumber p (regions (q .order .own))) (length (q .order .own))) refl
+        where
+          go : (t : Bool) → ltb (boxNumber p (regions (q .order .own))) (length (q .order .own)) ≡ t → boxNumber p (regions (q .order .own)) < length (q .order .own)
+          go true h = ltb-true (boxNumber p (regions (q .order .own))) (length (q .order .own)) h
+          go false h =
+              absurd (out-of-limits (nothing-above p (q .order .own) 0 (own-clean .0) (own-clean .1)
+              (first-nothing 0 p (q .order .own) (ltb-false (boxNumber p (regions (q .order .own))) (length (q .order .own)) h))))
+
       to-own : first p (cellList q) ≡ firstFrom (length (together (q .groups))) p (q .order .own)
       to-own =
           subst (λ (x : Pair). first p (cellList x) ≡ firstFrom (length (together (x .groups))) p (q .order .own)) (sym (known .moved))
-          (own-decides (q .order) p (gate-clean .0) passed)
+          (own-decides (q .order) p (gate-clean .0) (ap saysDrop allowed))
 
-      pub by-own : (i : ℕ) → i ≡ boxNumber p (regions (q .order .own)) → i < length (q .order .own)
+      pub by-own : (i : ℕ) → i ≡ boxNumber p (regions (q .order .own))
           → decision q (first p (cellList q)) ≡ accepted (decidedAt q (ownRule i) (getD (q .order .own) i (rule [] 0) .action))
       unfolding HasOrigin placeOf
-      by-own i is h =
-          at-origin p (ownRule i) (getD (q .order .own) i (rule [] 0) .action) h
-          (to-own ∙ rw is (first-found (length (together (q .groups))) p (q .order .own) (rule [] 0) (rw is at h)))
-
-      pub by-none : length (q .order .own) ≤ boxNumber p (regions (q .order .own)) → decision q (first p (cellList q)) ≡ refused 5
-      by-none h = ap (decision q) (to-own ∙ first-nothing (length (together (q .groups))) p (q .order .own) h)
+      by-own i is =
+          at-origin p (ownRule i) (getD (q .order .own) i (rule [] 0) .action) (omega (arith, own-has))
+          (to-own ∙ rw is (first-found (length (together (q .groups))) p (q .order .own) (rule [] 0) own-has))
 
     -- no rule of A has it: then it is outside the limits, and no rule of the cell list has it
     pub by-nothing : first p (q .order .gate) ≡ nothing → decision q (first p (cellList q)) ≡ refused 5
     by-nothing e = ap (decision q) (above-from p (cellList q) 0 (cell-clean .0) (nothing-above p (q .order .gate) 0 (gate-clean .0) (gate-clean .1) e))
 
     -- What a decision is: first match in the cell list, at the place of an origin that is there.
-    pub record Decided (d : Decision) : Type 0 where
+    pub record DecidedAs (d : Decision) : Type 0 where
       pub found : first p (cellList q) ≡ found (d .hit .place) (d .hit .action)
-      pub place : d .hit .place < length (cellList q)
+      pub place : d .hit .place < limits .total
       pub action : d .hit .action ≤ 1
       pub has : HasOrigin q (d .origin)
       pub back : placeOf q (d .origin) ≡ d .hit .place
 
-    decided-by : (x : Found) → first p (cellList q) ≡ x → (d : Decision) → decision q x ≡ accepted d → Decided d
+    decided-by : (x : Found) → first p (cellList q) ≡ x → (d : Decision) → decision q x ≡ accepted d → DecidedAs d
     decided-by (found n a) e d h =
-        let small = look-small 0 p (cellList q) (hit n a) (look-first 0 p (cellList q) (cell-clean .0) ∙ ap decidedBy e) in
-        let there = place-back q (good .counted) .there n (omega (arith, small .0)) in
+        let small = found-small p (cellList q) n a (cell-clean .0) e in
+        let many = faultless (limits .total) (cellList q) cell-faultless .many in
+        let there = place-back q (good .counted) .there n (small .0) in
         let is : record { hit = hit n a; origin = originAt q n } ≡ d = cc in
-        subst Decided is (record { found = e; place = omega (arith, small .0); action = small .1; has = there .0; back = there .1 })
+        subst DecidedAs is (record { found = e; place = omega (arith, small .0); action = small .1; has = there .0; back = there .1 })
     decided-by nothing e d h = let z : _≡_ {A = ℕ} 0 1 = cc in absurd (omega arith)
 
-    pub decided : (d : Decision) → decision q (first p (cellList q)) ≡ accepted d → Decided d
+    pub decided : (d : Decision) → decision q (first p (cellList q)) ≡ accepted d → DecidedAs d
     decided d h = decided-by (first p (cellList q)) refl d h

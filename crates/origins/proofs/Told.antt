@@ -1,4 +1,4 @@
--- A trace told in numbers, and the call's two tests before it; two outcomes of one call are equal. Assumes nothing.
+-- A trace told in numbers. Assumes nothing.
 use mathlib.Core.Path.{_≡_, refl, ap, _∙_}
 use mathlib.Core.List.{List, [], _∷_}
 use Prim.Native.Nat.{ℕ, _+_, _*_, _≤_, _<_}
@@ -6,10 +6,12 @@ use native.Mathlib.Omega.{arith}
 use lib.ListN.{length}
 use lib.Seq.{sets}
 use Rattle.lists.proofs.Lists.{sets-parts}
+use Rattle.policy.specs.Fields.{limits}
 use Rattle.policy.specs.Refusals.{accepted}
 use Rattle.policy.specs.declared.Answer.the-variants.{Length, Refused}
 use Rattle.policy.specs.declared.Refusal.the-variants.{NotComplete}
 use Rattle.wire.specs.Buffers.{filled, written}
+use Rattle.filter.specs.Lookup.{lookupNumber}
 use Rattle.origins.specs.Origin.{originSize, originNumbers, valueOf}
 use Rattle.origins.specs.Steps.{traceHeard, Small, TraceTold}
 use Rattle.origins.specs.declared.Trace.{Trace}
@@ -20,25 +22,25 @@ put-filled : (ns : List ℕ) (a b c : ℕ) → originSize ≤ length ns → sets
 unfolding filled
 put-filled ns a b c h = sets-parts ns 0 (a ∷ b ∷ c ∷ []) (omega arith)
 
-pub small-gate : {t : Trace} (rule number place : ℕ) → t ≡ Gate rule number place → Small t → (rule < 65536) × (number < 65536) × (place < 32768)
+pub small-gate : {t : Trace} (rule number place : ℕ) → t ≡ Gate rule number place → Small t → (rule < limits .gate) × (number < limits .total) × (place < limits .total)
 unfolding Small
 small-gate rule number place e h = rw e at h
 
-pub small-own : {t : Trace} (gate rule place action : ℕ) → t ≡ Own gate rule place action → Small t → (rule < 65536) × (place < 32768) × (action ≤ 1)
+pub small-own : {t : Trace} (passed rule place action : ℕ) → t ≡ Own passed rule place action → Small t → (rule < limits .own) × (place < limits .total) × (action ≤ 1)
 unfolding Small
-small-own gate rule place action e h = rw e at h
+small-own passed rule place action e h = rw e at h
 
 module _ (ns ns′ : List ℕ) (room : originSize ≤ length ns) (rule place : ℕ) where
   pub told-gate : (number : ℕ) → ns′ ≡ sets ns 0 (0 ∷ rule ∷ number ∷ []) → TraceTold (Gate rule number place) ns (Length (2 * place)) ns′
-  unfolding valueOf traceHeard written originNumbers
+  unfolding valueOf lookupNumber traceHeard written originNumbers
   told-gate number e = record {
     answer = ap accepted (omega arith);
     numbers = e ∙ put-filled ns 0 rule number room;
   }
 
-  pub told-own : (gate action : ℕ) → ns′ ≡ sets ns 0 (1 ∷ rule ∷ 0 ∷ []) → TraceTold (Own gate rule place action) ns (Length (2 * place + action)) ns′
-  unfolding valueOf traceHeard written originNumbers
-  told-own gate action e = record {
+  pub told-own : (passed action : ℕ) → ns′ ≡ sets ns 0 (1 ∷ rule ∷ 0 ∷ []) → TraceTold (Own passed rule place action) ns (Length (2 * place + action)) ns′
+  unfolding valueOf lookupNumber traceHeard written originNumbers
+  told-own passed action e = record {
     answer = refl;
     numbers = e ∙ put-filled ns 1 rule 0 room;
   }

@@ -10,7 +10,7 @@ use lib.Seq.{drop-drop, take-all}
 use Rattle.lists.proofs.Parts.{tail-whole}
 use Rattle.policy.specs.Fields.{countSize, recordSize, boxSize}
 use Rattle.policy.specs.Ranges.{Region, Packet}
-use Rattle.policy.specs.Rules.{Rule, rule, isAllow, found, first, saysDrop, drops, denies}
+use Rattle.policy.specs.Rules.{Rule, rule, isAllow, found, first, denies}
 use Rattle.policy.specs.Move.{Pair, together}
 use Rattle.policy.specs.Demands.{groupAt}
 use Rattle.policy.specs.Origins.{HasOrigin, placeOf}
@@ -25,14 +25,12 @@ use Rattle.sheet.specs.Steps.{rulesOf, groupsFrom, boxCount}
 use Rattle.draft.specs.Steps.{runSize}
 use Rattle.draft.proofs.Drafts.{rules-front}
 use Rattle.draft.proofs.Runs.{boxes-cons, boxes-next, boxes-none, boxes-behind, groups-front}
-use Rattle.filter.specs.Lookup.{hit, decidedBy}
-use Rattle.filter.proofs.Lists.{look-first}
-use Rattle.filter.proofs.Verdicts.{look-small}
+use Rattle.filter.proofs.Lists.{found-small}
 use Rattle.origins.specs.Steps.{laidOut, Checked, traceHeard, GateTraced, Traced}
 use Rattle.origins.specs.declared.Layout.{Layout}
 use Rattle.origins.specs.declared.Trace.the-variants.{Gate, Own, Nowhere}
 use Rattle.origins.proofs.Boxes.{number-within, record-regions}
-use Rattle.origins.proofs.Deciding.{gate-clean, has-box, by-gate, by-own, by-none, by-nothing}
+use Rattle.origins.proofs.Deciding.{gate-clean, has-box, own-has, by-gate, by-own, by-nothing}
 
 -- the group at a place of groups in bytes, and where the next one begins
 run-next : (k : ℕ) (s : List ℕ) (count : ℕ) → count ≡ countIn (drop (runSize k s) s) → runSize (k + 1) s ≡ runSize k s + groupSize count
@@ -65,43 +63,40 @@ module _ {s : List ℕ} {l : Layout} (c : Checked s l) (p : Packet) where
     count : length rules ≡ n
     count = ap length are ∙ rulesIn-length n (drop at s)
 
-    none : i ≡ n → length rules ≤ boxNumber p (regions rules)
-    none e = omega (arith, number, count)
-
-    module _ (some : i ≡ n → ⊥) where
-      here : i < n
-      here = omega (arith, number-within p recordSize n (drop at s), is)
-
-      in-place : getD rules i (rule [] 0) ≡ ruleIn (drop (at + recordSize * i) s)
-      in-place = ap (λ (x : List Rule). getD x i (rule [] 0)) are ∙ (rule-in-place i n (drop at s) (rule [] 0) here ∙ ap ruleIn (drop-drop (recordSize * i) at s))
-
-      decides : (r : Rule) → r ≡ ruleIn (drop (at + recordSize * i) s) → first p rules ≡ found i (r .action)
-      decides r e =
-          let b : boxNumber p (regions rules) < length rules = omega (arith, number, count, here) in
-          let f = first-found 0 p rules (rule [] 0) b in
-          let z : 0 + boxNumber p (regions rules) ≡ i = omega (arith, number) in
-          f ∙ rw (z, ← number, in-place, ← e) refl
+    in-place : i < n → getD rules i (rule [] 0) ≡ ruleIn (drop (at + recordSize * i) s)
+    in-place h = ap (λ (x : List Rule). getD x i (rule [] 0)) are ∙ (rule-in-place i n (drop at s) (rule [] 0) h ∙ ap ruleIn (drop-drop (recordSize * i) at s))
 
   -- A.
   abbrev gate : List Rule
   gate = q .order .gate
 
   module _ (i : ℕ) (is : i ≡ boxNumber p (eachIn recordSize boxIn (l .gate) (drop countSize s))) where
-    pub nowhere-in-gate : i ≡ l .gate → Traced p q Nowhere
+    gate-number : i ≡ boxNumber p (regions gate)
+    gate-number = number (l .gate) countSize gate refl i is
+
+    gate-count : length gate ≡ l .gate
+    gate-count = count (l .gate) countSize gate refl i is
+
+    pub nowhere : i ≡ l .gate → Traced p q Nowhere
     unfolding traceHeard GateTraced
-    nowhere-in-gate e = record { says = sym (by-nothing s q (c .checks) p (first-nothing 0 p gate (none (l .gate) countSize gate refl i is e))); gate = tt }
+    nowhere e =
+        let f = first-nothing 0 p gate (omega (arith, gate-number, gate-count)) in
+        record { says = sym (by-nothing s q (c .checks) p f); gate = f }
 
     module _ (some : i ≡ l .gate → ⊥) where
       pub gate-here : i < l .gate
-      gate-here = here (l .gate) countSize gate refl i is some
+      gate-here = omega (arith, number-within p recordSize (l .gate) (drop countSize s), is)
 
       pub gate-decides : (r : Rule) → r ≡ ruleIn (drop (countSize + recordSize * i) s) → first p gate ≡ found i (r .action)
-      gate-decides r e = decides (l .gate) countSize gate refl i is some r e
+      gate-decides r e =
+          let f = first-found 0 p gate (rule [] 0) (omega (arith, gate-number, gate-count, gate-here)) in
+          let z : 0 + boxNumber p (regions gate) ≡ i = omega (arith, gate-number) in
+          f ∙ rw (z, ← gate-number, in-place (l .gate) countSize gate refl i is gate-here, ← e) refl
 
   -- what is found and does not allow denies
   pub gate-drops : (i a : ℕ) → first p gate ≡ found i a → (a ≡ 1 → ⊥) → first p gate ≡ found i 0
   gate-drops i a e other =
-      let h = look-small 0 p gate (hit i a) (look-first 0 p gate (gate-clean s q (c .checks) .0) ∙ ap decidedBy e) in
+      let h = found-small p gate i a (gate-clean s q (c .checks) .0) e in
       let z : a ≡ 0 = omega (arith, h .1) in
       e ∙ ap (found i) z
 
@@ -110,26 +105,17 @@ module _ {s : List ℕ} {l : Layout} (c : Checked s l) (p : Packet) where
   own-are = ap (rulesIn (l .own)) (drop-drop countSize (l .middle) s)
 
   module _ (j : ℕ) (allowed : first p gate ≡ found j 1) (i : ℕ) (is : i ≡ boxNumber p (eachIn recordSize boxIn (l .own) (drop (l .middle + countSize) s))) where
-    passed : drops p gate ≡ false
-    passed = ap saysDrop allowed
+    own-number : i ≡ boxNumber p (regions (q .order .own))
+    own-number = number (l .own) (l .middle + countSize) (q .order .own) own-are i is
 
-    pub nowhere-in-own : i ≡ l .own → Traced p q Nowhere
-    unfolding traceHeard GateTraced
-    nowhere-in-own e = record { says = sym (by-none s q (c .checks) p passed (none (l .own) (l .middle + countSize) (q .order .own) own-are i is e)); gate = tt }
+    pub own-here : i < l .own
+    own-here = omega (arith, own-has s q (c .checks) p j allowed, own-number, count (l .own) (l .middle + countSize) (q .order .own) own-are i is)
 
-    module _ (some : i ≡ l .own → ⊥) where
-      pub own-here : i < l .own
-      own-here = here (l .own) (l .middle + countSize) (q .order .own) own-are i is some
-
-      pub own-traced : (r : Rule) → r ≡ ruleIn (drop (l .middle + countSize + recordSize * i) s) → Traced p q (Own j i (l .boxes + i) (r .action))
-      unfolding traceHeard GateTraced placeOf
-      own-traced r e =
-          let k : i < length (q .order .own) = omega (arith, own-here, count (l .own) (l .middle + countSize) (q .order .own) own-are i is) in
-          let a : getD (q .order .own) i (rule [] 0) ≡ r = in-place (l .own) (l .middle + countSize) (q .order .own) own-are i is some ∙ sym e in
-          record {
-            says = rw (c .place .boxesAre, ← a) (sym (by-own s q (c .checks) p passed i (number (l .own) (l .middle + countSize) (q .order .own) own-are i is) k));
-            gate = allowed;
-          }
+    pub own-traced : (r : Rule) → r ≡ ruleIn (drop (l .middle + countSize + recordSize * i) s) → Traced p q (Own j i (l .boxes + i) (r .action))
+    unfolding traceHeard GateTraced placeOf
+    own-traced r e =
+        let a : getD (q .order .own) i (rule [] 0) ≡ r = in-place (l .own) (l .middle + countSize) (q .order .own) own-are i is own-here ∙ sym e in
+        record { says = rw (c .place .boxesAre, ← a) (sym (by-own s q (c .checks) p j allowed i own-number)); gate = allowed }
 
   -- The group of the rule that drops the packet.
   module _ (j : ℕ) (dropped : first p gate ≡ found j 0) where
@@ -169,10 +155,11 @@ module _ {s : List ℕ} {l : Layout} (c : Checked s l) (p : Packet) where
           let g = length-drop from s in
           omega (arith, c .place .end, c .place .boxesAre, group-there)
 
+      group-inside : (n : ℕ) → n ≡ countIn (drop (runSize k groups) groups) → runSize k groups + groupSize n ≤ length groups
+      group-inside n e = omega (arith, run-next k groups n e, run-there)
+
       pub earlier-inside : runSize k (take (length s - from) groups) ≤ length (take (length s - from) groups)
-      earlier-inside =
-          let r = run-next k groups (countIn (drop (runSize k groups) groups)) refl in
-          rw (tail-whole s from groups-inside) (omega (arith, run-there))
+      earlier-inside = rw (tail-whole s from groups-inside) (omega (arith, group-inside (countIn (drop (runSize k groups) groups)) refl))
 
       module _ (front : ℕ) (counts : front ≡ boxCount k (take (length s - from) groups)) where
         front-is : front ≡ boxCount k groups
@@ -187,22 +174,16 @@ module _ {s : List ℕ} {l : Layout} (c : Checked s l) (p : Packet) where
         at-start : drop start s ≡ drop (runSize k groups) groups
         at-start = ap (λ (m : ℕ). drop m s) start-is ∙ sym (drop-drop (runSize k groups) from s)
 
-        pub start-inside : start + countSize ≤ length s
-        start-inside =
-            let r = run-next k groups (countIn (drop (runSize k groups) groups)) refl in
-            let g = length-drop from s in
-            omega (arith, start-is, run-there, groups-inside)
-
         module _ (n : ℕ) (told : n ≡ countIn (drop start s)) where
-          counted : n ≡ countIn (drop (runSize k groups) groups)
-          counted = told ∙ ap countIn at-start
-
           pub boxes-inside : start + countSize + boxSize * n ≤ length s
           boxes-inside =
-              let r = run-next k groups n counted in
               let g = length-drop from s in
-              omega (arith, start-is, run-there, groups-inside)
+              omega (arith, start-is, group-inside n (told ∙ ap countIn at-start), groups-inside)
 
+        pub start-inside : start + countSize ≤ length s
+        start-inside = omega (arith, boxes-inside (countIn (drop start s)) refl)
+
+        module _ (n : ℕ) (told : n ≡ countIn (drop start s)) where
           boxes-are : eachIn boxSize boxIn n (drop (start + countSize) s) ≡ groupAt q j
           boxes-are =
               let g = group-at k (denies gate) groups group-there in

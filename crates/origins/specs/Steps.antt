@@ -4,7 +4,7 @@ use mathlib.Core.List.{List}
 use Prim.Native.Nat.{ℕ, _<_, _≤_}
 use Rattle.policy.specs.Fields.{limits}
 use Rattle.policy.specs.Ranges.{Packet}
-use Rattle.policy.specs.Rules.{Rule, found, first}
+use Rattle.policy.specs.Rules.{Rule, found, nothing, first}
 use Rattle.policy.specs.Refusals.{Outcome, accepted, refused, said}
 use Rattle.policy.specs.Move.{Pair, cellList}
 use Rattle.policy.specs.Origins.{gateRule, ownRule}
@@ -27,25 +27,25 @@ pub record Checked (s : List ℕ) (l : Layout) : Type 0 where
   pub checks : checkOf limits s ≡ accepted (laidOut l s)
   pub place : PairPlace s (l .gate) (l .own) (l .middle) (l .third) (l .boxes)
 
--- What a trace says of a packet: what decides it in the cell list, and the rule that decides it in A.
+-- What the code's trace of a packet says: what decides it in the cell list, and the rule that decides it in A.
 unfoldable pub traceHeard : Trace → Outcome Decision
 traceHeard (Gate rule number place) = accepted (record { hit = hit place 0; origin = gateRule rule number })
-traceHeard (Own gate rule place action) = accepted (record { hit = hit place action; origin = ownRule rule })
+traceHeard (Own passed rule place action) = accepted (record { hit = hit place action; origin = ownRule rule })
 traceHeard Nowhere = refused 5
 
 unfoldable pub GateTraced : Packet → List Rule → Trace → Type 0
 GateTraced p a (Gate rule number place) = first p a ≡ found rule 0
-GateTraced p a (Own gate rule place action) = first p a ≡ found gate 1
-GateTraced p a Nowhere = Unit {0}
+GateTraced p a (Own passed rule place action) = first p a ≡ found passed 1
+GateTraced p a Nowhere = first p a ≡ nothing
 
 pub record Traced (p : Packet) (q : Pair) (r : Trace) : Type 0 where
   pub says : traceHeard r ≡ decision q (first p (cellList q))
   pub gate : GateTraced p (q .order .gate) r
 
--- Its numbers are small: a list has less than 65,536 rules, and twice a place and an action are below every refusal.
+-- Its numbers are within the limits of the lists.
 unfoldable pub Small : Trace → Type 0
-Small (Gate rule number place) = (rule < 65536) × (number < 65536) × (place < 32768)
-Small (Own gate rule place action) = (rule < 65536) × (place < 32768) × (action ≤ 1)
+Small (Gate rule number place) = (rule < limits .gate) × (number < limits .total) × (place < limits .total)
+Small (Own passed rule place action) = (rule < limits .own) × (place < limits .total) × (action ≤ 1)
 Small Nowhere = Unit {0}
 
 -- A trace told: the answer, and the numbers written.

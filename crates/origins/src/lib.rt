@@ -1,5 +1,5 @@
-// Origin: a pair sheet checked, and a packet traced to the rule of the old lists that decides it. On a sheet that passes check that
-// rule is found in A and then in its one group, or in B, never by trying all boxes.
+// Origin: a pair sheet checked, and a packet traced to the rule of A or B that decides it. On a sheet that passes check that rule is
+// found in A, and its box in its own group, or it is found in B; no other group's boxes are tried.
 use draft::kept;
 use groups::WORK_BYTES;
 use policy::Answer;
@@ -16,7 +16,7 @@ ghost use mathlib.Core.List.{[], _∷_};
 ghost use Prim.Native.Nat.{_+_, _*_, _≤_, _<_};
 ghost use lib.ListN.{length, drop};
 ghost use lib.Seq.{sets};
-ghost use Rattle.policy.specs.Fields.{boxSize};
+ghost use Rattle.policy.specs.Fields.{boxSize, limits};
 ghost use Rattle.policy.specs.Ranges.{inside};
 ghost use Rattle.policy.specs.Rules.{found, first};
 ghost use Rattle.policy.specs.Steps.{boxNumber};
@@ -25,10 +25,10 @@ ghost use Rattle.wire.specs.Records.{boxIn, eachIn};
 ghost use Rattle.origins.specs.Origin.{Origins, originSize};
 ghost use Rattle.origins.specs.Steps.{laidOut, Checked, Traced, Small, TraceTold};
 
-// The least of numbers that is lent.
+// The fewest numbers that may be lent.
 pub const ORIGIN_NUMBERS: usize = 3;
 
-// Where the parts of a pair sheet lie: the counts of A and B, where B and C begin, and how many boxes all groups have.
+// What `read_pair` answers of a pair sheet, as one value: the counts of A and B, where B and C begin, and how many boxes all groups have.
 pub struct Layout {
     pub gate: usize,
     pub own: usize,
@@ -38,7 +38,7 @@ pub struct Layout {
 }
 
 // What decides a packet: the rule of A that drops it, the number of the box inside that rule's group and the box's place in the cell
-// list; or the rule of A that allows it, the rule of B behind it, its place in the cell list and its action; or no rule.
+// list; or the rule of A that it passed, the rule of B that decides, that rule's place in the cell list and its action; or no rule.
 pub enum Trace {
     Gate {
         rule: usize,
@@ -46,7 +46,7 @@ pub enum Trace {
         place: usize,
     },
     Own {
-        gate: usize,
+        passed: usize,
         rule: usize,
         place: usize,
         action: u32,
@@ -54,15 +54,16 @@ pub enum Trace {
     Nowhere,
 }
 
-fn has(b: Box, p: Packet) -> bool
-    ensures { λ r. ⌜ r ≡ inside (packetOf p) (regionOf b) ⌝ }
+// Both ends are compared, so that nothing has to be known of the box.
+fn is_inside(p: Packet, bounds: Box) -> bool
+    ensures { λ r. ⌜ r ≡ inside (packetOf p) (regionOf bounds) ⌝ }
 {
     let values = p.values;
     for k in 0..FIELDS {
-        if values[k] < b.low_at(k) {
+        if values[k] < bounds.low_at(k) {
             return false;
         }
-        if b.high_at(k) < values[k] {
+        if bounds.high_at(k) < values[k] {
             return false;
         }
     }
@@ -77,7 +78,7 @@ fn first_box(p: Packet, s: &[u8], at: usize, size: usize, n: usize) -> usize
     let mut start = at;
     let mut left = n;
     while 0 < left {
-        if has(wire::box_at(s, start), p) {
+        if is_inside(p, wire::box_at(s, start)) {
             return n - left;
         }
         start += size;
@@ -105,21 +106,17 @@ fn trace_gate(p: Packet, sheet: &[u8], l: Layout, rule: usize) -> Trace
     }
 }
 
-// The packet that the rule at a place of A allows: the own rules decide.
-fn trace_own(p: Packet, sheet: &[u8], l: Layout, gate: usize) -> Trace
-    requires { ⌜ Checked (now sheet) l × (first (packetOf p) (laidOut l (now sheet) .order .gate) ≡ found gate 1) ⌝ }
+// The packet that passed the rule at a place of A: it is inside the limits, so an own rule has it.
+fn trace_own(p: Packet, sheet: &[u8], l: Layout, passed: usize) -> Trace
+    requires { ⌜ Checked (now sheet) l × (first (packetOf p) (laidOut l (now sheet) .order .gate) ≡ found passed 1) ⌝ }
     ensures { λ r. ⌜ Traced (packetOf p) (laidOut l (now (sheet .entry))) r ⌝ }
 {
-    let own = l.own;
     let from = l.middle + COUNT_BYTES;
-    let rule = first_box(p, sheet, from, RECORD_BYTES, own);
-    if rule == own {
-        return Trace::Nowhere;
-    }
+    let rule = first_box(p, sheet, from, RECORD_BYTES, l.own);
     let record = wire::rule_at(sheet, from + RECORD_BYTES * rule);
     let place = l.boxes + rule;
     Trace::Own {
-        gate,
+        passed,
         rule,
         place,
         action: record.action,
@@ -143,12 +140,13 @@ pub fn trace_packet(p: Packet, sheet: &[u8], l: Layout) -> Trace
     trace_gate(p, sheet, l, rule)
 }
 
-fn put_origin(numbers: &mut [u32], list: u32, place: usize, number: usize)
-    requires { ⌜ (originSize ≤ length (now numbers)) × (place < 65536) × (number < 65536) ⌝ }
-    ensures { λ r. ⌜ now (numbers .exit) ≡ sets (now (numbers .entry)) 0 (list ∷ place ∷ number ∷ []) ⌝ }
+// The list, the rule's place in it and the box's number, at the front of what is lent.
+fn put_origin(numbers: &mut [u32], list: u32, rule: usize, number: usize)
+    requires { ⌜ (originSize ≤ length (now numbers)) × (rule < limits .total) × (number < limits .total) ⌝ }
+    ensures { λ r. ⌜ now (numbers .exit) ≡ sets (now (numbers .entry)) 0 (list ∷ rule ∷ number ∷ []) ⌝ }
 {
     numbers[0] = list;
-    numbers[1] = place as u32;
+    numbers[1] = rule as u32;
     numbers[2] = number as u32;
 }
 
@@ -168,7 +166,7 @@ fn tell(t: Trace, numbers: &mut [u32]) -> Answer
             Answer::Length(value)
         }
         Trace::Own {
-            gate: _,
+            passed: _,
             rule,
             place,
             action,

@@ -18,7 +18,7 @@ use Rattle.policy.specs.Move.{Slot, slots, slotsOf, startOf, boxesOf, together,
 use Rattle.policy.proofs.Refused.{listRefusal, moveRefusal}
 use Rattle.policy.proofs.Numbers.{orElse-zero, orElse-both, given-zero}
 use Rattle.policy.proofs.Proper.{moved-proper}
-use Rattle.policy.proofs.Places.{denials-length}
+use Rattle.policy.proofs.Places.{cell-length}
 use Rattle.policy.proofs.Edits.{slots-append, move-accepted, list-accepted, slots-length, faults-append}
 use Rattle.wire.proofs.Numbers.{numberBytes-length}
 use Rattle.sheet.specs.Orders.{orderBytes}
@@ -111,7 +111,7 @@ cell-list-good lim o h =
     let w = list-accepted (lim .own) (o .own) (a .own) in
     let b = faultless (lim .own) (o .own) (a .own) in
     let bs : List Region = together (moved o .groups) in
-    let n : length (cellList (moved o)) ≡ length bs + length (o .own) = length-append (denials bs) (o .own) ∙ ap (λ (k : ℕ). k + length (o .own)) (denials-length bs) in
+    let n = cell-length (moved o) in
     let t = g .groups .within in
     list-none (lim .total) (cellList (moved o)) (omega arith) (omega arith)
     (faults-append (denials bs) (o .own) ∙ orElse-both _ _ (denials-sound bs (together-each Proper (moved o .groups) (moved-proper o (f .0)))) (w .0))

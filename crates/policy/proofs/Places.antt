@@ -134,42 +134,42 @@ box-at (g ∷ gs) (suc k) b h =
     let e = length-append g (together (take k gs)) in
     ap (λ (n : ℕ). getD (g ++ together gs) n []) (omega arith) ∙ (getD-append-add g (together gs) (length (together (take k gs)) + b) [] ∙ box-at gs k b h)
 
-box-there : (gs : List (List Region)) (k b : ℕ) → b < length (getD gs k []) → length (together (take k gs)) + b < length (together gs)
+box-below : (gs : List (List Region)) (k b : ℕ) → b < length (getD gs k []) → length (together (take k gs)) + b < length (together gs)
 unfolding together
-box-there [] zero b h = absurd (omega arith)
-box-there [] (suc k) b h = absurd (omega arith)
-box-there (g ∷ gs) zero b h = let e = length-append g (together gs) in omega arith
-box-there (g ∷ gs) (suc k) b h =
+box-below [] zero b h = absurd (omega arith)
+box-below [] (suc k) b h = absurd (omega arith)
+box-below (g ∷ gs) zero b h = let e = length-append g (together gs) in omega arith
+box-below (g ∷ gs) (suc k) b h =
     let e = length-append g (together (take k gs)) in
     let f = length-append g (together gs) in
-    let i = box-there gs k b h in
+    let i = box-below gs k b h in
     omega arith
 
-module _ (s : Pair) (counted : length (s .groups) ≡ denies (s .order .gate)) where
-  cell-length : length (cellList s) ≡ length (together (s .groups)) + length (s .order .own)
-  cell-length = rw (length-append, denials-length (together (s .groups))) refl
+pub cell-length : (s : Pair) → length (cellList s) ≡ length (together (s .groups)) + length (s .order .own)
+cell-length s = rw (length-append, denials-length (together (s .groups))) refl
 
+module _ (s : Pair) (counted : length (s .groups) ≡ denies (s .order .gate)) where
   read : (n : ℕ) (x : Origin) → Walked 0 (s .order .gate) (s .groups) (length (s .order .own)) n x → HasOrigin s x × (placeOf s x ≡ n)
   unfolding Walked HasOrigin placeOf
   read n (gateRule k b) w = let e : k ≡ w .0 = omega (arith, w .1) in rw e ((w .2, w .3, w .4), w .5)
   read n (ownRule i) w = w
 
   there : (n : ℕ) → n < length (cellList s) → HasOrigin s (originAt s n) × (placeOf s (originAt s n) ≡ n)
-  there n h = read n (originAt s n) (walks 0 (s .order .gate) (s .groups) (length (s .order .own)) n counted (omega (arith, cell-length)))
+  there n h = read n (originAt s n) (walks 0 (s .order .gate) (s .groups) (length (s .order .own)) n counted (omega (arith, cell-length s)))
 
   back : (x : Origin) → HasOrigin s x → (placeOf s x < length (cellList s)) × (originAt s (placeOf s x) ≡ x)
   unfolding HasOrigin placeOf
   back (gateRule j b) h =
-      let k = box-there (s .groups) (denies (take j (s .order .gate))) b (h .2) in
+      let k = box-below (s .groups) (denies (take j (s .order .gate))) b (h .2) in
       let e : 0 + j ≡ j = omega arith in
-      (omega (arith, cell-length), walk-gate 0 (s .order .gate) (s .groups) j b (rule [] 0) (h .0) (h .1) (h .2) ∙ ap (λ (i : ℕ). gateRule i b) e)
-  back (ownRule i) h = (omega (arith, cell-length), walk-own 0 (s .order .gate) (s .groups) i counted)
+      (omega (arith, cell-length s), walk-gate 0 (s .order .gate) (s .groups) j b (rule [] 0) (h .0) (h .1) (h .2) ∙ ap (λ (i : ℕ). gateRule i b) e)
+  back (ownRule i) h = (omega (arith, cell-length s), walk-own 0 (s .order .gate) (s .groups) i counted)
 
   names : (x : Origin) → HasOrigin s x → getD (cellList s) (placeOf s x) (rule [] 0) ≡ ruleFrom s x
   unfolding HasOrigin placeOf ruleFrom
   names (gateRule j b) h =
       let k : ℕ = denies (take j (s .order .gate)) in
-      denials-at (together (s .groups)) (s .order .own) (length (together (take k (s .groups))) + b) (rule [] 0) (box-there (s .groups) k b (h .2))
+      denials-at (together (s .groups)) (s .order .own) (length (together (take k (s .groups))) + b) (rule [] 0) (box-below (s .groups) k b (h .2))
       ∙ ap (λ (r : Region). rule r 0) (box-at (s .groups) k b (h .2))
   names (ownRule i) h = denials-behind (together (s .groups)) (s .order .own) i (rule [] 0)
 

@@ -17,7 +17,7 @@ pub data Origin : Type 0 where
   ownRule : ℕ → Origin
 
 -- The origin of a place, walked to through A from its place j on: an allow rule has no boxes, a deny rule those of the next group, and
--- behind all groups stand the own rules.
+-- behind all groups stand the own rules. (Where there are more groups than deny rules, nothing is meant; no sheet reads so.)
 unfoldable pub originFrom : ℕ → List Rule → List (List Region) → ℕ → Origin
 originFrom j [] gs n = ownRule n
 originFrom j (r ∷ l) [] n = ownRule n
@@ -40,7 +40,7 @@ unfoldable pub ruleFrom : Pair → Origin → Rule
 ruleFrom s (gateRule j b) = rule (getD (groupAt s j) b []) 0
 ruleFrom s (ownRule i) = getD (s .order .own) i (rule [] 0)
 
--- There is such a rule: a deny rule of A with so many boxes, or a rule of B.
+-- There is such a rule: a deny rule of A with more boxes than that number, or a rule of B.
 unfoldable pub HasOrigin : Pair → Origin → Type 0
 HasOrigin s (gateRule j b) =
     (j < length (s .order .gate)) × (isAllow (getD (s .order .gate) j (rule [] 0)) ≡ false) × (b < length (groupAt s j))

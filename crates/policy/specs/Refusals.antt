@@ -69,7 +69,7 @@ unfoldable pub faults : List Rule → ℕ
 faults [] = 0
 faults (r ∷ l) = orElse (given (not (sound r)) 4) (faults l)
 
--- A length, or the refusal's number.
+-- The value answered, or the refusal's number.
 abbrev pub said : Answer → Outcome ℕ
 said (Length n) = accepted n
 said (Refused f) = refused (numberOf f)

@@ -65,7 +65,7 @@ pub enum Refusal {
     NoPlace,
 }
 
-// The length that a call answers, or the refusal.
+// The value that a call answers, mostly a length, or the refusal.
 pub enum Answer {
     Length(usize),
     Refused(Refusal),

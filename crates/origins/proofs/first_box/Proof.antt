@@ -30,14 +30,14 @@ module _ (a : tie.At-loop Inv-loop μ-loop) (some : 0 < a .loop .left) where
   more : a .loop .left ≡ suc (a .loop .left - 1)
   more = omega (arith, some)
 
-  box-there : a .loop .start + start .args .size ≤ length (start .args .s .now)
-  box-there = box-inside (packetOf (start .args .p)) (start .args .size) (start .args .s .now) (start .args .at) (start .args .n) (a .loop .start) (a .loop .left) (a .loop .inv .1) (a .loop .left - 1) more
+  there : a .loop .start + start .args .size ≤ length (start .args .s .now)
+  there = box-inside (packetOf (start .args .p)) (start .args .size) (start .args .s .now) (start .args .at) (start .args .n) (a .loop .start) (a .loop .left) (a .loop .inv .1) (a .loop .left - 1) more
 
 box-at-requires : tie.Need-box-at-requires Inv-loop μ-loop
-box-at-requires c κs = omega (arith, box-there (c .before) (c .loop-test .taken), c .before .loop .inv .0)
+box-at-requires c κs = omega (arith, there (c .before) (c .loop-test .taken), c .before .loop .inv .0)
 
-has-requires : tie.Need-has-requires Inv-loop μ-loop
-has-requires c κs = search needs
+is-inside-requires : tie.Need-is-inside-requires Inv-loop μ-loop
+is-inside-requires c κs = search needs
 
 sub-result : tie.Need-sub-result Inv-loop μ-loop
 sub-result c = c .before .before .before .before .loop .inv .1 .0
@@ -47,10 +47,10 @@ returns c =
     let a = c .before .before .before .before in
     let v = a .before .before .args in
     box-has (packetOf (v .p)) (v .size) (v .s .now) (v .at) (v .n) (a .loop .start) (a .loop .left) (a .loop .inv .1) (a .loop .left - 1) (more a (c .before .before .before .loop-test .taken))
-    (ap (inside (packetOf (v .p))) (sym (c .before .before .box-at .ensures)) ∙ (sym (c .before .has .ensures) ∙ c .if1 .taken))
+    (ap (inside (packetOf (v .p))) (sym (c .before .before .box-at .ensures)) ∙ (sym (c .before .is-inside .ensures) ∙ c .if1 .taken))
 
 add-start : tie.Need-add-start Inv-loop μ-loop
-add-start c = let h = box-there (c .before .before .before .before) (c .before .before .before .loop-test .taken) in search needs
+add-start c = let h = there (c .before .before .before .before) (c .before .before .before .loop-test .taken) in search needs
 
 sub-left : tie.Need-sub-left Inv-loop μ-loop
 sub-left c = search needs
@@ -64,7 +64,7 @@ loop-again c =
     let v = a .before .before .args in (
       a .loop .inv .0,
       box-misses (packetOf (v .p)) (v .size) (v .s .now) (v .at) (v .n) (a .loop .start) (a .loop .left) (a .loop .inv .1) (a .loop .left - 1) (more a (c .before .before .before .loop-test .taken))
-          (ap (inside (packetOf (v .p))) (sym (c .before .before .box-at .ensures)) ∙ (sym (c .before .has .ensures) ∙ c .if1 .left)),
+          (ap (inside (packetOf (v .p))) (sym (c .before .before .box-at .ensures)) ∙ (sym (c .before .is-inside .ensures) ∙ c .if1 .left)),
     )
 
 returns-2 : tie.Need-returns-2 Inv-loop μ-loop
@@ -81,7 +81,7 @@ first-box-spec =
     μ-loop
     loop-holds
     box-at-requires
-    has-requires
+    is-inside-requires
     sub-result
     returns
     add-start

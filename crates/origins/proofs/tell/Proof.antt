@@ -1,4 +1,5 @@
--- `tell` meets its contract, arm by arm. Assumes nothing.
+-- `tell` meets its contract, arm by arm. (The numbers written are asked for by all that is known of a trace, so that a must-fail edit
+-- that writes another one of them fails for what is written.) Assumes nothing.
 use borrow.Author.Needs.{needs}
 use native.Mathlib.Omega.{arith}
 use Rattle.origins.proofs.Told.{small-gate, small-own, told-gate, told-own, told-nowhere}

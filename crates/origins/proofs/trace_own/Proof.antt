@@ -1,13 +1,12 @@
 -- `trace_own` meets its contract. Assumes nothing.
 use borrow.Author.Needs.{needs}
 use native.Mathlib.Omega.{arith}
-use mathlib.Core.Path.{_≡_}
 use Prim.Native.Nat.{_+_, _*_, _≤_}
 use lib.ListN.{length}
 use Rattle.policy.specs.Fields.{countSize, recordSize}
 use Rattle.policy.specs.Values.{packetOf, ruleOf}
 use Rattle.origins.specs.Steps.{Checked}
-use Rattle.origins.proofs.Tracing.{nowhere-in-own, own-here, own-traced}
+use Rattle.origins.proofs.Tracing.{own-here, own-traced}
 use Rattle.origins.proofs.trace_own.Statement.{statement}
 use Rattle.origins.proofs.trace_own.Tie as tie
 
@@ -19,9 +18,9 @@ module _ (a : tie.After-first-box) where
   abbrev checked : Checked (start .args .sheet .now) (start .args .l)
   checked = start .pre .0
 
-  inside : (a .first-box .result ≡ start .args .l .own → ⊥) → start .args .l .middle + countSize + recordSize * a .first-box .result + recordSize ≤ length (start .args .sheet .now)
-  inside some =
-      let h = own-here checked (packetOf (start .args .p)) _ (start .pre .1) (a .first-box .result) (a .first-box .ensures) some in
+  inside : start .args .l .middle + countSize + recordSize * a .first-box .result + recordSize ≤ length (start .args .sheet .now)
+  inside =
+      let h = own-here checked (packetOf (start .args .p)) _ (start .pre .1) (a .first-box .result) (a .first-box .ensures) in
       omega (arith, checked .place .lists .ownEnd, checked .place .lists .inside)
 
 add-from : tie.Need-add-from
@@ -30,41 +29,26 @@ add-from c = search needs
 first-box-requires : tie.Need-first-box-requires
 first-box-requires c κs = search needs
 
-returns : tie.Need-returns
-returns c =
-    let a = c .before in
-    nowhere-in-own (checked a) (packetOf (start a .args .p)) _ (start a .pre .1) (a .first-box .result) (a .first-box .ensures) (c .if1 .taken)
-
 mul-rule-at : tie.Need-mul-rule-at
-mul-rule-at c = let h = inside (c .before) (c .if1 .left) in search needs
+mul-rule-at c = let h = inside c in search needs
 
 add-rule-at : tie.Need-add-rule-at
-add-rule-at c = let h = inside (c .before) (c .if1 .left) in search needs
+add-rule-at c = let h = inside c in search needs
 
 rule-at-requires : tie.Need-rule-at-requires
-rule-at-requires c κs = inside (c .before) (c .if1 .left)
+rule-at-requires c κs = inside c
 
 add-place : tie.Need-add-place
 add-place c =
-    let a = c .before .before .before in
-    let h = inside a (c .before .before .if1 .left) in
+    let a = c .before .before in
+    let h = inside a in
     let k = checked a .place .totalLimit in
     search needs
 
-returns-2 : tie.Need-returns-2
-returns-2 c =
-    let a = c .before .before .before in
-    own-traced (checked a) (packetOf (start a .args .p)) _ (start a .pre .1) (a .first-box .result) (a .first-box .ensures) (c .before .before .if1 .left) (ruleOf (c .before .rule-at .result)) (c .before .rule-at .ensures)
+returns : tie.Need-returns
+returns c =
+    let a = c .before .before in
+    own-traced (checked a) (packetOf (start a .args .p)) _ (start a .pre .1) (a .first-box .result) (a .first-box .ensures) (ruleOf (c .before .rule-at .result)) (c .before .rule-at .ensures)
 
 pub trace-own-spec : {M : Type 1} → statement M
-trace-own-spec =
-    tie.close
-    (tie.spec
-    add-from
-    first-box-requires
-    returns
-    mul-rule-at
-    add-rule-at
-    rule-at-requires
-    add-place
-    returns-2)
+trace-own-spec = tie.close (tie.spec add-from first-box-requires mul-rule-at add-rule-at rule-at-requires add-place returns)

@@ -9,7 +9,7 @@ use Rattle.policy.specs.Rules.{Rule, found, first}
 use Rattle.policy.specs.Values.{packetOf, ruleOf}
 use Rattle.wire.specs.Records.{ruleIn}
 use Rattle.origins.specs.Steps.{laidOut, Checked}
-use Rattle.origins.proofs.Tracing.{nowhere-in-gate, gate-here, gate-decides, gate-drops}
+use Rattle.origins.proofs.Tracing.{nowhere, gate-here, gate-decides, gate-drops}
 use Rattle.origins.proofs.trace_packet.Statement.{statement}
 use Rattle.origins.proofs.trace_packet.Tie as tie
 
@@ -37,7 +37,7 @@ first-box-requires c κs = search needs
 returns : tie.Need-returns
 returns c =
     let a = c .before in
-    nowhere-in-gate (checked a) (packetOf (start a .args .p)) (a .first-box .result) (a .first-box .ensures) (c .if1 .taken)
+    nowhere (checked a) (packetOf (start a .args .p)) (a .first-box .result) (a .first-box .ensures) (c .if1 .taken)
 
 mul-rule-at : tie.Need-mul-rule-at
 mul-rule-at c = let h = inside (c .before) (c .if1 .left) in search needs

@@ -1,4 +1,4 @@
--- `has` meets its contract: the loop's invariant says that every field passed is in its range. Assumes nothing.
+-- `is_inside` meets its contract: the loop's invariant says that every field passed is in its range. Assumes nothing.
 use borrow.Author.Needs.{needs}
 use native.Mathlib.Omega.{arith}
 use mathlib.Core.Path.{_≡_, sym, _∙_}
@@ -11,17 +11,18 @@ use Rattle.policy.specs.Ranges.{Range, Region, Packet, within, inside}
 use Rattle.policy.specs.Values.{regionOf}
 use Rattle.policy.specs.Steps.{rangeAt}
 use Rattle.policy.proofs.Values.{ranges-length}
+use Rattle.policy.proofs.Cuts.{within-true}
 use Rattle.filter.proofs.Insides.{InRange, outside-at, all-inside}
-use Rattle.origins.proofs.Boxes.{below-low, above-high, between}
-use Rattle.origins.proofs.has.Statement.{statement}
-use Rattle.origins.proofs.has.Tie as tie
+use Rattle.origins.proofs.Boxes.{below-low, above-high}
+use Rattle.origins.proofs.is_inside.Statement.{statement}
+use Rattle.origins.proofs.is_inside.Tie as tie
 
 abbrev Inv-loop : tie.InvT-loop
-Inv-loop b values k₀ k =
-    (k ≤ fields) × (length values ≡ fields) × (length (regionOf b) ≡ fields) × ((j : ℕ) → j < k → InRange values (regionOf b) j)
+Inv-loop bounds values k₀ k =
+    (k ≤ fields) × (length values ≡ fields) × (length (regionOf bounds) ≡ fields) × ((j : ℕ) → j < k → InRange values (regionOf bounds) j)
 
 abbrev μ-loop : tie.MeasureT-loop
-μ-loop b values k₀ k = fields - k
+μ-loop bounds values k₀ k = fields - k
 
 -- What is known at the head of the loop, with a field left.
 module _ (a : tie.At-loop Inv-loop μ-loop) where
@@ -29,7 +30,7 @@ module _ (a : tie.At-loop Inv-loop μ-loop) where
   packet = a .before .before .args .p .values
 
   abbrev box : Region
-  box = regionOf (a .before .before .args .b)
+  box = regionOf (a .before .before .args .bounds)
 
   abbrev value : ℕ
   value = getD packet (a .loop .k) 0
@@ -43,9 +44,9 @@ module _ (a : tie.At-loop Inv-loop μ-loop) where
 loop-holds : tie.Need-loop-holds Inv-loop μ-loop
 loop-holds c =
     let a = c .before .args in
-    let l : length (a .b .low) ≡ fields = search needs in
-    let h : length (a .b .high) ≡ fields = search needs in
-    (search needs, search needs, ranges-length (a .b .low) (a .b .high) (cc) ∙ l, λ j h. absurd (omega arith))
+    let l : length (a .bounds .low) ≡ fields = search needs in
+    let h : length (a .bounds .high) ≡ fields = search needs in
+    (search needs, search needs, ranges-length (a .bounds .low) (a .bounds .high) (cc) ∙ l, λ j h. absurd (omega arith))
 
 mul-if1 : tie.Need-mul-if1 Inv-loop μ-loop
 mul-if1 c = search needs
@@ -85,7 +86,7 @@ loop-less c = search needs
 loop-again : tie.Need-loop-again Inv-loop μ-loop
 loop-again c =
     let a = c .before .before .before .before .before in
-    let e = between (value a) (range a) (omega (arith, c .before .before .before .low-at .ensures .0, c .before .before .if1 .left)) (omega (arith, c .before .high-at .ensures .0, c .if2 .left)) in
+    let e = within-true (value a) (range a) (omega (arith, c .before .before .before .low-at .ensures .0, c .before .before .if1 .left)) (omega (arith, c .before .high-at .ensures .0, c .if2 .left)) in
     (omega arith, a .loop .inv .1, a .loop .inv .2, below-more (InRange (packet a) (box a)) (a .loop .k) (a .loop .inv .3) e)
 
 returns-3 : tie.Need-returns-3 Inv-loop μ-loop
@@ -93,8 +94,8 @@ returns-3 c =
     let a = c .before in
     sym (all-inside (packet a) (box a) (a .loop .inv .1 ∙ sym (a .loop .inv .2)) (λ j h. a .loop .inv .3 j (omega (arith, a .loop .inv .1))))
 
-pub has-spec : {M : Type 1} → statement M
-has-spec =
+pub is-inside-spec : {M : Type 1} → statement M
+is-inside-spec =
     tie.close
     (tie.spec
     Inv-loop
