@@ -60,9 +60,9 @@ int main(int count, char **words) {
     if (answer == FOLDPLOVER_REFUSED + FOLDPLOVER_INCOMPLETE) return printf("no rule: a number is above its field's highest\n"), 1;
     if (answer >= FOLDPLOVER_REFUSED) return printf("refused %u\n", (unsigned)(answer - FOLDPLOVER_REFUSED)), 1;
     const char *verdict = answer % 2 == 1 ? "forwarded" : "dropped";
-    printf("%s by %s rule %u (from 0)", verdict, found[0] == FOLDPLOVER_A ? "gate" : "own", (unsigned)found[1]);
+    printf("%s by %s rule %u (counted from 0)", verdict, found[0] == FOLDPLOVER_A ? "gate" : "own", (unsigned)found[1]);
     if (found[0] == FOLDPLOVER_A) printf(", its box %u", (unsigned)found[2]);
     printf("; place %u of the cell list\n", (unsigned)(answer / 2));
     print_rule(found[0], found[1]);
-    return 0;
+    return fflush(stdout) == 0 ? 0 : (perror("origin"), 2);
 }

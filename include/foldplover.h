@@ -220,8 +220,8 @@ uint32_t foldplover_lookup_table(uint32_t src, uint32_t dst, uint32_t sport, uin
  * writes. Test for FOLDPLOVER_REFUSED first: some refusals are odd, and numbers is then as it was.
  * numbers: the list (FOLDPLOVER_A or FOLDPLOVER_B) and the rule's place in it, as an edit takes
  * them (in A denies and allows count), and the number of the box inside the rule's group (0 in B);
- * any further ones stay. Show people the rule, or its place with the words 'counted from 0': the
- * answer's place is one of the cell list, and another rule has that place in A.
+ * any further ones stay. Show people the rule, or its place with the words 'counted from 0', and
+ * not the answer's place: in A that is mostly another rule's, or none's.
  * numbers_len counts numbers, not bytes; sheet_len is the pair sheet's own length, which move or
  * the last edit answered.
  * Refuses in this order: 1 (fewer than 3 numbers, work); then as foldplover_check; then 5 (no rule

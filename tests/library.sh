@@ -43,9 +43,9 @@ origin() {
 }
 any='0.0.0.0-255.255.255.255'
 origin 'examples/plant.order 10.10.4.2 10.30.1.17 50000 502 6' \
-    "dropped by gate rule 12 (from 0), its box 0; place 7 of the cell list\ndeny $any $any 0-65535 502-502 6-6\n" 0
+    "dropped by gate rule 12 (counted from 0), its box 0; place 7 of the cell list\ndeny $any $any 0-65535 502-502 6-6\n" 0
 origin 'examples/plant.order 10.20.8.3 10.30.1.17 50000 102 6' \
-    "forwarded by own rule 3 (from 0); place 340 of the cell list\nallow $any 10.30.1.0-10.30.1.255 0-65535 0-65535 6-6\n" 0
+    "forwarded by own rule 3 (counted from 0); place 340 of the cell list\nallow $any 10.30.1.0-10.30.1.255 0-65535 0-65535 6-6\n" 0
 origin 'examples/plant.order 10.20.8.3 10.30.1.17 50000 102 256' "no rule: a number is above its field's highest\n" 1
 origin 'examples/refused.order 10.20.8.3 10.30.1.17 50000 102 6' 'refused 6\n' 1
 origin 'examples/plant.order 10.20.8 10.30.1.17 50000 102 6' '' 2

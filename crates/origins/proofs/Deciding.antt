@@ -11,7 +11,7 @@ use Rattle.policy.specs.Fields.{limits}
 use Rattle.policy.specs.Ranges.{Packet}
 use Rattle.policy.specs.Rules.{rule, complete, Found, found, nothing, firstFrom, first, saysDrop, inLimits}
 use Rattle.policy.specs.Refusals.{accepted, refused, faults}
-use Rattle.policy.specs.Move.{Pair, moved, together, cellList}
+use Rattle.policy.specs.Move.{Pair, together, cellList}
 use Rattle.policy.specs.Demands.{groupAt}
 use Rattle.policy.specs.Origins.{Origin, gateRule, ownRule, originAt, placeOf, HasOrigin}
 use Rattle.policy.specs.Steps.{boxNumber}

@@ -32,7 +32,7 @@ unfoldable pub originNumbers : Origin → List ℕ
 originNumbers (gateRule j b) = 0 ∷ j ∷ b ∷ []
 originNumbers (ownRule i) = 1 ∷ i ∷ 0 ∷ []
 
--- So many numbers a call writes, for a decision its origin's.
+-- A call writes so many numbers: those of the decision's origin.
 abbrev pub originSize : ℕ
 originSize = 3
 

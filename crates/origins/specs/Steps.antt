@@ -22,12 +22,12 @@ use Rattle.origins.specs.declared.Trace.the-variants.{Gate, Own, Nowhere
 abbrev pub laidOut : Layout → List ℕ → Pair
 laidOut l s = pairOf (l .gate) (l .own) (l .middle) (l .third) s
 
--- Its sheet passes check.
+-- The sheet passes check, and its parts lie so.
 pub record Checked (s : List ℕ) (l : Layout) : Type 0 where
   pub checks : checkOf limits s ≡ accepted (laidOut l s)
   pub place : PairPlace s (l .gate) (l .own) (l .middle) (l .third) (l .boxes)
 
--- What the code's trace of a packet says: what decides it in the cell list, and the rule that decides it in A.
+-- What the code's trace of a packet says of the cell list, and of A: the rule that decides it there.
 unfoldable pub traceHeard : Trace → Outcome Decision
 traceHeard (Gate rule number place) = accepted (record { hit = hit place 0; origin = gateRule rule number })
 traceHeard (Own passed rule place action) = accepted (record { hit = hit place action; origin = ownRule rule })
@@ -38,11 +38,12 @@ GateTraced p a (Gate rule number place) = first p a ≡ found rule 0
 GateTraced p a (Own passed rule place action) = first p a ≡ found passed 1
 GateTraced p a Nowhere = first p a ≡ nothing
 
+-- Both are so.
 pub record Traced (p : Packet) (q : Pair) (r : Trace) : Type 0 where
   pub says : traceHeard r ≡ decision q (first p (cellList q))
   pub gate : GateTraced p (q .order .gate) r
 
--- Its numbers are within the limits of the lists.
+-- The numbers that are told are within the limits of the lists.
 unfoldable pub Small : Trace → Type 0
 Small (Gate rule number place) = (rule < limits .gate) × (number < limits .total) × (place < limits .total)
 Small (Own passed rule place action) = (rule < limits .own) × (place < limits .total) × (action ≤ 1)
