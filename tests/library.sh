@@ -1,16 +1,21 @@
 #!/bin/sh
-# Builds the static library and tests it from outside: the C surface as C11 and as C++, then the driver of the second program,
-# which holds every call against the model, with the two example programs between them. Fails with the first that fails.
+# Builds the static library and tests it from outside: the C surface and a stored sheet of before W2 as C11 and as C++, then the
+# driver of the second program, which holds every call against the model, with the two example programs between them. Fails with the
+# first that fails.
 set -eu
 cd "$(dirname "$0")/.."
 library=target/staticlib/libfoldplover.a
 flags='-Wall -Wextra -Wpedantic -Werror -Iinclude'
 rt staticlib foldplover >target/staticlib.log 2>&1 || { tail -n 20 target/staticlib.log; exit 1; }
 
-tests/x86 gcc -std=c11 $flags -o target/surface tests/c/surface.c $library
+for test in surface before; do
+    tests/x86 gcc -std=c11 $flags -o target/$test tests/c/$test.c $library
+    tests/x86 g++ -std=c++17 $flags -o target/$test++ -x c++ tests/c/$test.c -x none $library
+done
 tests/x86 run target/surface
-tests/x86 g++ -std=c++17 $flags -o target/surface++ -x c++ tests/c/surface.c -x none $library
 tests/x86 run target/surface++
+tests/x86 run target/before tests/second/before_w2.pair
+tests/x86 run target/before++ tests/second/before_w2.pair
 
 # The desk example: what it prints, its status, the lengths of both lists, and the gate list's bytes; a refused sheet writes none.
 tests/x86 gcc -std=c11 $flags -o target/desk examples/desk.c $library
@@ -22,9 +27,9 @@ desk() {
     [ "$status" = "$3" ]
 }
 desk dairy 'gate 29 bytes, cell 137 bytes' 0
-desk plant 'gate 29 bytes, cell 9425 bytes' 0
+desk plant 'gate 29 bytes, cell 5105 bytes' 0
 desk refused 'refused 6' 1
-for name in dairy:137 plant:9425; do
+for name in dairy:137 plant:5105; do
     printf '\0\1\0\0\0\0\377\377\377\377\0\0\0\0\377\377\377\377\0\0\377\377\0\0\377\377\0\377\1' | cmp - "target/${name%:*}.gate"
     [ "$(wc -c <"target/${name%:*}.cell")" = "${name#*:}" ]
 done
@@ -45,7 +50,7 @@ any='0.0.0.0-255.255.255.255'
 origin 'examples/plant.order 10.10.4.2 10.30.1.17 50000 502 6' \
     "dropped by gate rule 12 (counted from 0), its box 0; place 7 of the cell list\ndeny $any $any 0-65535 502-502 6-6\n" 0
 origin 'examples/plant.order 10.20.8.3 10.30.1.17 50000 102 6' \
-    "forwarded by own rule 3 (counted from 0); place 340 of the cell list\nallow $any 10.30.1.0-10.30.1.255 0-65535 0-65535 6-6\n" 0
+    "forwarded by own rule 3 (counted from 0); place 180 of the cell list\nallow $any 10.30.1.0-10.30.1.255 0-65535 0-65535 6-6\n" 0
 origin 'examples/plant.order 10.20.8.3 10.30.1.17 50000 102 256' "no rule: a number is above its field's highest\n" 1
 origin 'examples/refused.order 10.20.8.3 10.30.1.17 50000 102 6' 'refused 6\n' 1
 origin 'examples/plant.order 10.20.8 10.30.1.17 50000 102 6' '' 2

@@ -176,6 +176,39 @@ static void test_limits(void)
     expect("1,023 boxes, one own rule", move(order, length), 1730u - 27 + 29 + 4 + 1023 * 26);
 }
 
+/* The boundary table's S2: an allow that shares sources but no destination with the deny behind it
+ * leaves it whole, one box. One destination shared cuts it into three. */
+static void test_missed(void)
+{
+    static const uint8_t area[16] = {0, 0, 0, 0, 0, 0, 0, 9, 0, 0, 0, 0, 0, 0, 0, 4};
+    static const uint8_t low[16] = {0, 0, 0, 0, 0, 0, 0, 2, 0, 0, 0, 0, 0, 0, 0, 4};
+    static const uint8_t high[16] = {0, 0, 0, 6, 0, 0, 0, 9, 0, 0, 0, 0, 0, 0, 0, 4};
+    static const uint8_t shared[16] = {0, 0, 0, 3, 0, 0, 0, 5, 0, 0, 0, 0, 0, 0, 0, 3};
+    const uint8_t *boxes = sheet + ORDER_LENGTH + 4;
+    uint8_t bytes[ORDER_LENGTH];
+    uint8_t *allow = bytes + 2, *deny = bytes + 2 + RECORD;
+    memcpy(bytes, dairy, ORDER_LENGTH);
+    memcpy(allow, full_allow, RECORD);
+    memcpy(allow, shared, 16);
+    allow[11] = 6;
+    allow[15] = 9;
+    memcpy(deny, full_allow, RECORD);
+    memcpy(deny, area, 16);
+    deny[26] = 0;
+    expect("S2", move(bytes, ORDER_LENGTH), ORDER_LENGTH + 2 + 28);
+    expect("S2's boxes", sheet[ORDER_LENGTH + 3], 1);
+    expect_bytes("S2's box", boxes, deny, 26);
+    expect("check of S2", foldplover_check(sheet, ORDER_LENGTH + 2 + 28, work, sizeof work), 0);
+    allow[11] = 5;
+    expect("one destination from shared", move(bytes, ORDER_LENGTH), ORDER_LENGTH + 2 + 28);
+    expect_bytes("its box", boxes, deny, 26);
+    allow[11] = 4;
+    expect("one destination shared", move(bytes, ORDER_LENGTH), ORDER_LENGTH + 2 + 2 + 3 * 26);
+    expect_bytes("the lower sources", boxes, low, 16);
+    expect_bytes("the higher sources", boxes + 26, high, 16);
+    expect_bytes("the shared sources", boxes + 52, shared, 16);
+}
+
 static uint32_t check(size_t length)
 {
     return foldplover_check(sheet, length, work, sizeof work);
@@ -562,6 +595,7 @@ int main(void)
     test_move();
     test_move_refusals();
     test_limits();
+    test_missed();
     test_check();
     move_dairy();
     test_gate_list();

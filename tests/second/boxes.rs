@@ -1,8 +1,9 @@
-//! Ranges, boxes, rules and lists: 01, "The five fields" and "Cutting one box from another"; and
-//! where a rule of the cell list comes from: 02, W1.
+//! Ranges, boxes, rules and lists: 01, "The five fields" and "Cutting one box from another", with
+//! what 02, W2 changes there; and where a rule of the cell list comes from: 02, W1.
 //!
 //! Written to be read beside 01, not to be fast: numbers are `u64` wide so that no sum or
-//! difference comes near an end, lists are vectors, and cutting is a recursion over the fields.
+//! difference comes near an end, lists are vectors, and what two boxes share is worked out as a box
+//! of its own before anything is cut.
 
 use crate::refusals::{Fault, Part, Refusal};
 
@@ -28,13 +29,13 @@ impl Range {
         (low <= high).then_some(Range { low, high })
     }
 
-    /// Asked only where the two share a value, so the part ends just before the other begins.
-    fn below(self, other: Range) -> Option<Range> {
-        (self.low < other.low).then(|| Range { low: self.low, high: other.low - 1 })
+    /// The part before `inner`, which lies within this range.
+    pub fn below(self, inner: Range) -> Option<Range> {
+        (self.low < inner.low).then(|| Range { low: self.low, high: inner.low - 1 })
     }
 
-    fn above(self, other: Range) -> Option<Range> {
-        (other.high < self.high).then(|| Range { low: other.high + 1, high: self.high })
+    pub fn above(self, inner: Range) -> Option<Range> {
+        (inner.high < self.high).then(|| Range { low: inner.high + 1, high: self.high })
     }
 }
 
@@ -63,27 +64,35 @@ impl PacketBox {
         changed
     }
 
-    /// The pieces of this (deny) box outside `allow`, in 01's order.
-    pub fn less(&self, allow: &PacketBox) -> Vec<PacketBox> {
-        self.less_from(0, allow)
+    /// The packets that are in both boxes: a box, unless some field's ranges share no value.
+    pub fn shared(&self, other: &PacketBox) -> Option<PacketBox> {
+        let mut both = self.clone();
+        for field in 0..FIELDS {
+            both.ranges[field] = self.ranges[field].shared(other.ranges[field])?;
+        }
+        Some(both)
     }
 
-    /// `self` already holds the shared ranges in the fields before `field`.
-    fn less_from(&self, field: usize, allow: &PacketBox) -> Vec<PacketBox> {
-        if field == FIELDS {
-            return Vec::new();
-        }
-        let (own, other) = (self.ranges[field], allow.ranges[field]);
-        match own.shared(other) {
+    /// What taking `allow` leaves of this (deny) box: the box itself if the two share no packet
+    /// (02, W2), else its pieces around what they share.
+    pub fn less(&self, allow: &PacketBox) -> Vec<PacketBox> {
+        match self.shared(allow) {
             None => vec![self.clone()],
-            Some(shared) => {
-                let parts = [own.below(other), own.above(other)];
-                let mut pieces: Vec<PacketBox> =
-                    parts.into_iter().flatten().map(|part| self.with(field, part)).collect();
-                pieces.extend(self.with(field, shared).less_from(field + 1, allow));
-                pieces
-            }
+            Some(shared) => self.around(&shared),
         }
+    }
+
+    /// The pieces around a box within this one, in 01's order: field by field the part below, then
+    /// the part above, the earlier fields holding the inner ranges and the later ones this box's.
+    fn around(&self, inner: &PacketBox) -> Vec<PacketBox> {
+        let (mut pieces, mut rest) = (Vec::new(), self.clone());
+        for field in 0..FIELDS {
+            let (own, inner) = (self.ranges[field], inner.ranges[field]);
+            let parts = [own.below(inner), own.above(inner)];
+            pieces.extend(parts.into_iter().flatten().map(|part| rest.with(field, part)));
+            rest = rest.with(field, inner);
+        }
+        pieces
     }
 }
 

@@ -3,13 +3,20 @@
 
 use std::sync::OnceLock;
 
+use crate::before;
 use crate::boxes::{self, Group, Packet, Rule, HIGHEST};
+use crate::broken_cut;
 use crate::calls::{self, encode, Change, Edit, LARGEST_PAIR_SHEET, REFUSED, WORK};
 use crate::sheets::{self, PairSheet, RECORD_BYTES};
 
-pub fn shows(fault: &str) -> bool {
+/// The fault's name; empty where there is none.
+pub fn name() -> &'static str {
     static NAME: OnceLock<String> = OnceLock::new();
-    NAME.get_or_init(|| std::env::var("FOLDPLOVER_BROKEN").unwrap_or_default()) == fault
+    NAME.get_or_init(|| std::env::var("FOLDPLOVER_BROKEN").unwrap_or_default())
+}
+
+pub fn shows(fault: &str) -> bool {
+    name() == fault
 }
 
 pub fn accepted(answer: u32) -> bool {
@@ -106,6 +113,7 @@ pub fn move_pair(order: &[u8], sheet: &mut [u8], work: &mut [u8]) -> u32 {
         if shows("same-sheet-always") {
             pair.groups = vec![Vec::new(); pair.groups.len()];
         }
+        broken_cut::cut_confused(pair);
     });
     if shows("refuses-everything") {
         sheet.copy_from_slice(&sheet_before);
@@ -129,6 +137,9 @@ fn limits_confused(answer: u32, gate: &[Rule], own: usize) -> u32 {
     if shows("6-from-1026") && answer == refused(6) && most_pieces(gate) == 1_025 {
         return refused(7);
     }
+    if accepted(answer) {
+        return limits_of_before(answer, gate, own);
+    }
     if answer != refused(6) {
         return answer;
     }
@@ -139,6 +150,18 @@ fn limits_confused(answer: u32, gate: &[Rule], own: usize) -> u32 {
     }
     if shows("6-at-the-end") && groups.iter().all(|group| group.len() <= 1_024) {
         return if too_many_boxes { refused(7) } else { 0 };
+    }
+    answer
+}
+
+/// 6 and 7 by the pieces that the cut before W2 would have made.
+fn limits_of_before(answer: u32, gate: &[Rule], own: usize) -> u32 {
+    if shows("6-counts-pieces-of-before") && before::groups(gate).is_none() {
+        return refused(6);
+    }
+    let too_many = |groups: Vec<Group>| total(&groups) + own > 1_024;
+    if shows("7-counts-boxes-of-before") && before::groups(gate).is_some_and(too_many) {
+        return refused(7);
     }
     answer
 }
@@ -155,6 +178,9 @@ pub fn edit(sheet: &mut [u8], used: u64, mut edit: Edit, work: &mut [u8]) -> u32
     if let Some(Ok(old)) = old {
         answer = order_confused(answer, &edit, &old);
         groups_confused(&mut answer, sheet, &edit, &old);
+    }
+    if shows("edit-moves-again-for-7") && answer == refused(7) {
+        answer = broken_cut::edit_moved_again(sheet, used, &edit);
     }
     if shows("edit-does-nothing") && accepted(answer) {
         sheet.copy_from_slice(&sheet_before);
@@ -233,6 +259,9 @@ fn groups_confused(answer: &mut u32, sheet: &mut [u8], edit: &Edit, old: &PairSh
         if renews_all {
             pair.groups = unlimited(&pair.gate, |place| &pair.gate[..place]);
         }
+        if shows("edit-cuts-as-before-w2") && of_gate {
+            broken_cut::renew_as_before(pair, edit, old);
+        }
     });
 }
 
@@ -250,6 +279,9 @@ fn check_confused(answer: u32, sheet: &[u8]) -> u32 {
     };
     if shows("check-says-yes") && answer == refused(8) {
         return 0;
+    }
+    if shows("check-takes-groups-of-before") && answer == refused(8) {
+        return if broken_cut::moved_before(sheet).is_some() { 0 } else { answer };
     }
     if shows("check-compares-counts") && answer == refused(8) {
         let groups = unlimited(&pair.gate, |place| &pair.gate[..place]);
@@ -277,7 +309,20 @@ pub fn cell_list(sheet: &[u8], list: &mut [u8], work: &mut [u8]) -> u32 {
         list[2..answer as usize].rotate_right(own * RECORD_BYTES);
     }
     spoil_work(answer, &work_before, work);
+    if shows("cell-list-takes-groups-of-before") && answer == refused(8) {
+        let cell = |pair: PairSheet| boxes::cell_rules(&pair.groups, &pair.own);
+        let taken = broken_cut::moved_before(sheet).map(cell);
+        return taken.map_or(answer, |rules| write_list(list, &rules, calls::LARGEST_LIST));
+    }
     answer
+}
+
+/// A list that should have been refused.
+fn write_list(list: &mut [u8], rules: &[Rule], end: usize) -> u32 {
+    let bytes = sheets::list_bytes(rules);
+    list[..end].fill(0);
+    list[..bytes.len()].copy_from_slice(&bytes);
+    bytes.len() as u32
 }
 
 pub fn gate_list(sheet: &[u8], list: &mut [u8], work: &mut [u8]) -> u32 {
@@ -290,6 +335,10 @@ pub fn gate_list(sheet: &[u8], list: &mut [u8], work: &mut [u8]) -> u32 {
         list[..2].copy_from_slice(&[0, 1]);
     }
     spoil_work(answer, &work_before, work);
+    if shows("gate-list-takes-groups-of-before") && answer == refused(8) {
+        let taken = broken_cut::moved_before(sheet);
+        return taken.map_or(answer, |_| write_list(list, &boxes::gate_rules(), calls::GATE_LIST));
+    }
     answer
 }
 

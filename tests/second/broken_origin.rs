@@ -3,6 +3,7 @@
 
 use crate::boxes::{self, Group, Packet, HIGHEST};
 use crate::broken::{accepted, refused, shows};
+use crate::broken_cut;
 use crate::calls::{self, encode, ORIGIN_NUMBERS, WORK};
 use crate::sheets::{self, PairSheet};
 
@@ -62,6 +63,10 @@ fn refusal_confused(answer: u32, packet: &Packet, sheet: &[u8], numbers: &mut [u
     }
     if shows("origin-answers-stale") && answer == refused(8) {
         return sheets::read_pair(sheet)
+            .map_or(answer, |pair| as_it_stands(packet, &pair, numbers));
+    }
+    if shows("origin-takes-groups-of-before") && answer == refused(8) {
+        return broken_cut::moved_before(sheet)
             .map_or(answer, |pair| as_it_stands(packet, &pair, numbers));
     }
     if shows("origin-ignores-left-over") && answer == refused(3) {

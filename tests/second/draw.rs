@@ -106,6 +106,25 @@ pub fn lattice_pair(random: &mut Random, shape: &Shape) -> Pair {
     Pair { gate, own: list(random, shape, own) }
 }
 
+/// Such a grid of allows, beside denies that all of them miss by one value in one field, or with
+/// which they share just one there. Before W2 a grid that is missed cut as one that is not.
+pub fn missed_lattice_pair(random: &mut Random, shape: &Shape) -> Pair {
+    let field = random.pick(&[1, 2, 3, 4, 4, 4]);
+    let (first, highest) = (100, HIGHEST[field]);
+    let mut gate = lattice(random);
+    for allow in &mut gate {
+        allow.area = allow.area.with(field, Range { low: first, high: highest });
+    }
+    for _ in 0..random.within(1, 4) {
+        let high = random.pick(&[first - 1, first - 1, first - 1, first]);
+        let area = PacketBox::full().with(field, Range { low: 0, high });
+        gate.push(Rule::new(area, Action::Deny));
+    }
+    gate.push(rows::full(Action::Allow));
+    let own = random.within(1, sheets::MOST_OWN_RULES);
+    Pair { gate, own: list(random, shape, own) }
+}
+
 /// A full allow in front empties every group.
 pub fn cover(pair: &mut Pair) {
     pair.gate.insert(0, rows::full(Action::Allow));

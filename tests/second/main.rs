@@ -1,10 +1,14 @@
-//! The second program: a plain model of 01, and a driver that holds the library against it.
+//! The second program: a plain model of 01, with what 02 has changed, and a driver that holds the
+//! library against it.
 
 // Without the library there is no driver, and half of the model waits for it.
 #![cfg_attr(not(library), allow(dead_code))]
 
+mod before;
 mod boxes;
 mod calls;
+#[cfg(library)]
+mod cuts;
 mod damage;
 mod draw;
 #[cfg(library)]
@@ -32,6 +36,7 @@ mod step;
 mod stream;
 #[cfg(library)]
 mod tally;
+mod touching;
 
 use std::io::{self, Read, Write};
 use std::process::ExitCode;
@@ -40,6 +45,7 @@ const USAGE: &str = "\
 second selftest                the model's own tests
 second plan < ORDER            what plan prints for an order sheet
 second move < ORDER            the pair sheet of an order sheet
+second before < ORDER          the pair sheet that a move gave before W2
 second cases COUNT SEED        a stream of cases for the product's test program
 second expected < CASES        what that program has to print
 second drive N SEED [FIRST]    N cases against the library (built with --cfg library)";
@@ -78,6 +84,13 @@ fn main() -> ExitCode {
             Ok(pair) => print(&sheets::pair_bytes(&pair)),
             Err(refusal) => fail(&format!("refused {}", refusal.number())),
         },
+        (["before"], _) => {
+            let order = sheets::read_order(&standard_input()).ok();
+            match order.and_then(|order| before::moved(&order.gate, &order.own)) {
+                Some(pair) => print(&sheets::pair_bytes(&pair)),
+                None => fail("refused"),
+            }
+        }
         (["cases", _, _], &[count, seed]) => print(&stream::cases(count, seed)),
         (["expected"], _) => match stream::expected(&standard_input()) {
             Some(lines) => print(lines.as_bytes()),

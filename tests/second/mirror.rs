@@ -1,12 +1,14 @@
 //! The C surface on top of the model, to try the driver on: as it is, the driver finds nothing;
-//! with FOLDPLOVER_BROKEN set to the name of a fault (see broken.rs and broken_origin.rs), it has to
-//! find that fault. Built as a static library for `selftest.sh` only.
+//! with FOLDPLOVER_BROKEN set to the name of a fault (see broken.rs, broken_cut.rs and
+//! broken_origin.rs), it has to find that fault. Built as a static library for `selftest.sh` only.
 
 // The model has more than these calls need.
 #![allow(dead_code)]
 
+mod before;
 mod boxes;
 mod broken;
+mod broken_cut;
 mod broken_origin;
 mod calls;
 mod refusals;

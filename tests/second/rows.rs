@@ -1,4 +1,5 @@
-//! Rows of the boundary table that are not theorems, with the answers that it gives.
+//! Rows of the boundary table that are not theorems, with the answers that it gives; and the boxes
+//! of its line S2, which 02, W2 changes.
 
 use crate::boxes::{Action, PacketBox, Range, Rule};
 use crate::sheets;
@@ -38,6 +39,13 @@ pub fn grid(sources: u64, destinations: u64) -> Vec<Rule> {
 pub fn cube() -> Vec<Rule> {
     let ends = vec![full(Action::Allow), full(Action::Deny)];
     [singles(0, 10), singles(1, 10), singles(2, 10), ends].concat()
+}
+
+/// S2's deny, and the allow that is taken from it and shares no packet with it.
+pub fn s2() -> (PacketBox, PacketBox) {
+    let area = |source, destination| PacketBox::full().with(0, source).with(1, destination);
+    let range = |low, high| Range { low, high };
+    (area(range(0, 9), range(0, 4)), area(range(3, 5), range(6, 9)))
 }
 
 pub fn rows() -> Vec<Row> {

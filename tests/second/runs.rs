@@ -46,8 +46,9 @@ impl Lists {
     }
 }
 
-/// Edits of a sheet that need not be what a move gives: only the model is the measure.
-pub fn any_edits(driver: &mut Driver, shape: &Shape, sheet: &[u8], count: u64) {
+/// Edits of a sheet that need not be what a move gives: only the model is the measure. The sheet as
+/// the last of them leaves it.
+pub fn any_edits(driver: &mut Driver, shape: &Shape, sheet: &[u8], count: u64) -> Vec<u8> {
     let mut sheet = sheet.to_vec();
     for _ in 0..count {
         let counts =
@@ -59,6 +60,7 @@ pub fn any_edits(driver: &mut Driver, shape: &Shape, sheet: &[u8], count: u64) {
             sheet = after[..length as usize].to_vec();
         }
     }
+    sheet
 }
 
 /// A run of edits from the pair sheet that a move wrote.

@@ -5,6 +5,7 @@
 
 use crate::boxes::{Action, PacketBox, Rule, FIELDS, HIGHEST};
 use crate::calls;
+use crate::cuts;
 use crate::damage::{self, Layout};
 use crate::draw::{self, Pair, Shape};
 use crate::drive::Driver;
@@ -13,6 +14,7 @@ use crate::packets;
 use crate::rows;
 use crate::runs::{self, Run};
 use crate::sheets::{self, PairSheet};
+use crate::touching;
 
 /// The first case runs the rows of 01; the others are drawn.
 pub fn play(driver: &mut Driver, case: u64) {
@@ -21,21 +23,30 @@ pub fn play(driver: &mut Driver, case: u64) {
         return row_scene(driver, &shape);
     }
     match driver.random.below(100) {
-        0..=21 => pair_scene(driver, &shape),
-        22..=24 => table_scene(driver, &shape),
-        25..=46 => edit_scene(driver, &shape),
-        47..=68 => damage_scene(driver, &shape),
-        69..=77 => stale_scene(driver, &shape),
-        78..=83 => record_scene(driver, &shape),
-        84..=88 => buffer_scene(driver, &shape),
-        89..=92 => count_scene(driver, &shape),
-        93..=96 => lattice_scene(driver, &shape),
+        0..=19 => pair_scene(driver, &shape),
+        20..=22 => table_scene(driver, &shape),
+        23..=42 => edit_scene(driver, &shape),
+        43..=63 => damage_scene(driver, &shape),
+        64..=71 => stale_scene(driver, &shape),
+        72..=77 => record_scene(driver, &shape),
+        78..=82 => buffer_scene(driver, &shape),
+        83..=86 => count_scene(driver, &shape),
+        87..=90 => lattice_scene(driver, &shape),
+        91 => cuts::touching_scene(driver),
+        92..=96 => {
+            let pair = match driver.random.below(10) {
+                0 => touching::crowded_pair(&mut driver.random, &shape),
+                _ => drawn_pair(driver, &shape),
+            };
+            cuts::before_scene(driver, &shape, &pair);
+        }
         _ => noise_scene(driver, &shape),
     }
 }
 
 fn row_scene(driver: &mut Driver, shape: &Shape) {
     driver.short_percent = 0;
+    cuts::hold_s2(driver);
     for row in rows::rows() {
         let (answer, sheet) = driver.move_pair(&row.order);
         let result = match answer {
@@ -85,6 +96,7 @@ fn drawn_pair(driver: &mut Driver, shape: &Shape) -> Pair {
             let (gate, own) = (driver.random.within(1, 64), driver.random.within(1, 256));
             draw::counted_pair(&mut driver.random, gate, own)
         }
+        1..=15 => touching::pair(&mut driver.random, shape),
         _ => draw::small_pair(&mut driver.random, shape),
     }
 }
@@ -375,7 +387,10 @@ fn counted_list(driver: &mut Driver, count: u64) -> Vec<Rule> {
 
 /// Pieces and boxes around their limits, moved and edited, and sheets whose A is beyond them.
 fn lattice_scene(driver: &mut Driver, shape: &Shape) {
-    let mut pair = draw::lattice_pair(&mut driver.random, shape);
+    let mut pair = match driver.random.below(4) {
+        0 => draw::missed_lattice_pair(&mut driver.random, shape),
+        _ => draw::lattice_pair(&mut driver.random, shape),
+    };
     let covered = driver.random.chance(50);
     if covered {
         draw::cover(&mut pair);

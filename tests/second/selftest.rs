@@ -1,14 +1,16 @@
-//! The model's own tests: 01's boundary table, its rows, its printed example, origins worked out
-//! by hand, and the facts about cutting, moving and origins, tried packet by packet over small
-//! ranges.
+//! The model's own tests: 01's boundary table with the line that 02, W2 changes, its rows, its
+//! printed example, boxes that touch, a sheet of before W2 and origins worked out by hand, and the
+//! facts about cutting, moving and origins, tried packet by packet over small ranges.
 
+use crate::before;
 use crate::boxes::{self, Action, Origin, Packet, PacketBox, Range, Rule, FIELDS, HIGHEST};
-use crate::calls::{self, encode, REFUSED};
+use crate::calls::{self, encode, Change, Edit, REFUSED};
 use crate::draw;
 use crate::plan;
 use crate::random::Random;
 use crate::rows::{self, full};
 use crate::sheets::{self, PairSheet};
+use crate::touching::{self, TOUCHES};
 
 const M: u64 = 4_294_967_295;
 
@@ -35,6 +37,7 @@ fn cutting_table() -> Vec<(&'static str, bool)> {
     let (inner, outer) = (area((4, 6), (4, 6)), area((1, 8), (2, 7)));
     let around = [((1, 3), (2, 7)), ((7, 8), (2, 7)), ((4, 6), (2, 3)), ((4, 6), (7, 7))];
     let beside = [((0, 2), (0, 4)), ((6, 9), (0, 4)), ((3, 5), (0, 4))];
+    let (whole, missed) = rows::s2();
     let areas = |parts: &[((u64, u64), (u64, u64))]| -> Vec<PacketBox> {
         parts.iter().map(|&(source, destination)| area(source, destination)).collect()
     };
@@ -42,7 +45,8 @@ fn cutting_table() -> Vec<(&'static str, bool)> {
     let split = boxes::group(&source(0, 9), &two_allows, crate::refusals::Part::C);
     vec![
         ("S1", left(outer.clone(), inner.clone()) == areas(&around)),
-        ("S2", left(area((0, 9), (0, 4)), area((3, 5), (6, 9))) == areas(&beside)),
+        ("S2", left(whole.clone(), missed.clone()) == areas(&[((0, 9), (0, 4))])),
+        ("S2 before W2", before::less(&whole, &missed) == areas(&beside)),
         ("S3", left(inner.clone(), outer).is_empty()),
         ("S4", left(inner.clone(), inner).is_empty()),
         ("S5", left(area((0, 3), (0, 9)), area((4, 9), (0, 9))) == areas(&[((0, 3), (0, 9))])),
@@ -66,6 +70,79 @@ fn list_table() -> Vec<(&'static str, bool)> {
         ("S11", boxes::groups(&[full(Action::Allow)]) == Ok(vec![])),
         ("S12", boxes::groups(&[full(Action::Deny)]) == Ok(vec![vec![PacketBox::full()]])),
     ]
+}
+
+/// A box with all of its ranges written out.
+fn five(ranges: [(u64, u64); FIELDS]) -> PacketBox {
+    PacketBox { ranges: ranges.map(|(low, high)| Range { low, high }) }
+}
+
+/// What an allow of 3 to 5 in four fields, and of `last` in the fifth, leaves of a deny of 0 to 9
+/// in all five: one piece if `last` has none of 0 to 9, else eight and what is left in the fifth.
+fn cut_by(last: (u64, u64)) -> Vec<PacketBox> {
+    let inner = (3, 5);
+    five([(0, 9); FIELDS]).less(&five([inner, inner, inner, inner, last]))
+}
+
+fn eight_and(parts: &[(u64, u64)]) -> Vec<PacketBox> {
+    let (own, inner) = ((0, 9), (3, 5));
+    let eight = (0..FIELDS - 1).flat_map(|field| {
+        [(0, 2), (6, 9)].map(|part| {
+            let mut ranges = [own; FIELDS];
+            ranges[..field].fill(inner);
+            ranges[field] = part;
+            five(ranges)
+        })
+    });
+    let last = parts.iter().map(|&part| five([inner, inner, inner, inner, part]));
+    eight.chain(last).collect()
+}
+
+/// One value this side and that side of sharing, in the last field looked at.
+fn touching_table() -> Vec<(&'static str, bool)> {
+    let whole = [five([(0, 9); FIELDS])];
+    vec![
+        ("one value behind", cut_by((10, 12)) == whole),
+        ("the highest value", cut_by((9, 12)) == eight_and(&[(0, 8)])),
+        ("the lowest value", cut_by((0, 0)) == eight_and(&[(1, 9)])),
+        ("a value within", cut_by((4, 4)) == eight_and(&[(0, 3), (5, 9)])),
+        ("all values", cut_by((0, 9)) == eight_and(&[])),
+    ]
+}
+
+/// A gate with S2's box as its denies, behind S2's allow, moved now and moved before W2.
+fn before_table() -> Vec<(&'static str, bool)> {
+    let (whole, missed) = rows::s2();
+    let gate = [allow(missed), deny(whole.clone()), deny(whole.clone()), full(Action::Allow)];
+    let (old, fresh) =
+        (before::moved(&gate, &rows::own(1)).expect("it moved"), moved(&gate, &rows::own(1)));
+    let mut work = vec![7; calls::WORK];
+    let mut check = |pair| encode(calls::check(&sheets::pair_bytes(pair), &mut work));
+    let checks = [&old, &fresh].map(&mut check) == [REFUSED + 8, 0];
+    let origins = [said(&old, &[0; 5]), said(&fresh, &[0; 5])] == [refused(8), (0, [0, 1, 0, 7])];
+    vec![
+        ("S2's group", fresh.groups == [[whole.clone()], [whole]]),
+        ("S2's group before W2", box_counts(&old) == [3, 3]),
+        ("a sheet of before W2 is not taken", checks && origins),
+        ("an edit takes a sheet of before W2", old_and_new_groups(&old)),
+    ]
+}
+
+fn box_counts(pair: &PairSheet) -> Vec<usize> {
+    pair.groups.iter().map(Vec::len).collect()
+}
+
+/// The second deny for itself: its group is worked out anew, the one before it stays.
+fn old_and_new_groups(old: &PairSheet) -> bool {
+    let record = sheets::rule_bytes(&old.gate[2]);
+    let again = Edit { list: 0, place: 2, change: Change::Replace(&record) };
+    let (mut sheet, mut work) = (sheets::pair_bytes(old), vec![7; calls::WORK]);
+    let used = sheet.len() as u64;
+    sheet.resize(calls::LARGEST_PAIR_SHEET, 7);
+    let length =
+        calls::edit(&mut sheet, used, &again, &mut work).map_or(0, |length| length as usize);
+    sheets::read_pair(&sheet[..length])
+        .is_ok_and(|pair| box_counts(&pair) == [3, 1] && pair.groups[0] == old.groups[0])
 }
 
 /// The gate and the cell of 01's printed example.
@@ -233,16 +310,29 @@ fn packets() -> Vec<Packet> {
     })
 }
 
-/// At most ten pieces, none in two of them, together the deny box without the allow box.
+/// At most ten pieces, none in two of them, together the deny box without the allow box. The same
+/// was true before W2.
 fn cutting_holds(random: &mut Random, packets: &[Packet]) -> bool {
     let shape = draw::shape(random);
     let (deny, allow) = (draw::area(random, &shape), draw::area(random, &shape));
-    let pieces = deny.less(&allow);
-    let meets = |packet: &Packet| pieces.iter().filter(|piece| piece.has(packet)).count();
-    pieces.len() <= 10
-        && packets
-            .iter()
-            .all(|packet| meets(packet) == usize::from(deny.has(packet) && !allow.has(packet)))
+    let holds = |pieces: &[PacketBox]| {
+        let meets = |packet: &Packet| pieces.iter().filter(|piece| piece.has(packet)).count();
+        pieces.len() <= 10
+            && packets
+                .iter()
+                .all(|packet| meets(packet) == usize::from(deny.has(packet) && !allow.has(packet)))
+    };
+    holds(&deny.less(&allow)) && holds(&before::less(&deny, &allow))
+}
+
+/// The deny box alone, exactly where the two share no packet; the two cuts are the same where they
+/// share one.
+fn touching_holds(random: &mut Random) -> bool {
+    (0..FIELDS).flat_map(|field| TOUCHES.map(|touch| (field, touch))).all(|(field, touch)| {
+        let (deny, allow) = touching::boxes(random, field, touch);
+        let (pieces, old) = (deny.less(&allow), before::less(&deny, &allow));
+        (pieces == [deny]) == touch.misses() && (touch.misses() || pieces == old)
+    })
 }
 
 /// The moved pair forwards what the pair forwarded; nothing is said of a pair that is not moved.
@@ -284,12 +374,14 @@ fn origins_hold(random: &mut Random, packets: &[Packet]) -> Option<bool> {
 fn facts() -> Vec<(&'static str, bool)> {
     let (mut random, packets) = (Random::new(1), packets());
     let cutting = (0..300).all(|_| cutting_holds(&mut random, &packets));
+    let touching = (0..300).all(|_| touching_holds(&mut random));
     let moves: Vec<bool> = (0..100).filter_map(|_| moving_holds(&mut random, &packets)).collect();
     let moving = moves.len() > 90 && moves.iter().all(|&held| held);
     let found: Vec<bool> = (0..100).filter_map(|_| origins_hold(&mut random, &packets)).collect();
     let origins = found.len() > 90 && found.iter().all(|&held| held);
     vec![
         ("cutting, packet by packet", cutting),
+        ("cutting boxes that touch", touching),
         ("moving, packet by packet", moving),
         ("origins, packet by packet", origins),
     ]
@@ -299,9 +391,11 @@ fn facts() -> Vec<(&'static str, bool)> {
 pub fn run() -> bool {
     let tables = [
         cutting_table(),
+        touching_table(),
         list_table(),
         printed_example(),
         row_table(),
+        before_table(),
         origin_table(),
         size_table(),
         facts(),

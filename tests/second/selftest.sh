@@ -17,6 +17,8 @@ $out/second cases 300 4 >$out/cases.bin
 $out/second expected <$out/cases.bin >$out/cases.out
 for made in $out/cases.bin crates/cases/stdin; do cmp $made tests/second/cases.bin; done
 for made in $out/cases.out crates/cases/stdout; do cmp $made tests/second/cases.out; done
+$out/second before <examples/plant.order >$out/before_w2.pair
+cmp $out/before_w2.pair tests/second/before_w2.pair
 for order in examples/*.order; do
     $out/second plan <"$order" >$out/plan.out
     cmp $out/plan.out "${order%.order}.out"
@@ -31,6 +33,13 @@ drive 10 1
 tail -n 1 $out/report.txt | grep '^10 cases, .* no difference, [0-9]* answers never met$'
 drive 20000 1
 tail -n 1 $out/report.txt | grep '^20000 cases, .* no difference, every answer met$'
+
+# The cut that shows faults is another than the model's. Without a fault it has to pass, or its
+# faults would be found whatever they were.
+(
+    export FOLDPLOVER_BROKEN=cut-without-fault
+    drive 5000 1
+)
 
 # The names that the sources ask `shows` for: at least one, and no question without one.
 asked=$(grep -ohE '(fn )?shows\(' $sources | grep -vc fn || true)

@@ -1,22 +1,26 @@
 -- The loop over the fields of a cut: what it knows at field k, and what one field stores. Assumes nothing.
 use mathlib.Core.Path.{_≡_, refl, ap, sym, _∙_}
-use mathlib.Core.List.{List, [], _∷_, _++_}
+use mathlib.Core.List.{List, [], _∷_, _++_, append-assoc}
 use mathlib.Core.Bool.{Bool, true, false, cond}
 use Prim.Native.Nat.{ℕ, _+_, _-_, _*_, _<_, _≤_, min, max}
 use native.Mathlib.Omega.{arith}
 use lib.Dec.{ltb}
-use lib.ListN.{length, getD, drop, set, length-set}
+use lib.ListN.{length, take, drop, set, length-set, length-append}
 use lib.Seq.{drop-drop, drop-set-lt, getD-drop, set-getD}
 use borrow.Author.Tests.{lt-ltb, le-ltb}
-use Rattle.policy.specs.Fields.{fields}
+use Rattle.policy.specs.Fields.{fields, boxSize}
 use Rattle.policy.specs.Ranges.{Range, range, Region}
-use Rattle.policy.specs.Values.{ranges}
+use Rattle.policy.specs.Values.{regionOf}
 use Rattle.policy.specs.Steps.{rangeAt, partBelow, partAbove}
-use Rattle.policy.specs.Cut.{shared, cut}
-use Rattle.policy.proofs.Values.{ranges-length, ranges-at}
-use Rattle.policy.proofs.Rest.{rest, rest-all, rest-above, rest-below, rest-meets, rest-within, rest-done}
-use Rattle.groups.specs.Steps.{Stored}
-use Rattle.groups.proofs.Stores.{length-store, stored-then, stored-none}
+use Rattle.policy.specs.Cut.{share, shared, cut}
+use Rattle.policy.proofs.Rest.{rest, rest-all, rest-field, rest-done}
+use Rattle.wire.specs.Records.{boxBytes}
+use Rattle.groups.specs.Steps.{places, most, Stored, Behind, CutAt, FieldCut}
+use Rattle.groups.specs.declared.Ends.{Ends}
+use Rattle.groups.specs.declared.Underway.{Underway}
+use Rattle.groups.proofs.Stores.{length-store, take-store, stored-then, stored-none}
+use Rattle.groups.proofs.Pieces.{bytes-alike}
+use Rattle.groups.proofs.Parts.{behind-own, behind-kept}
 
 -- The parts of a field, as lists of one box or none.
 module _ (b : Region) (k x : ℕ) where
@@ -33,128 +37,125 @@ module _ (b : Region) (k x : ℕ) where
   above-none h = rw (le-ltb x (rangeAt b k .high) h)
 
 -- A range that lies in the allow's is narrowed by nothing.
-pub shared-all : (b : Region) (k f u : ℕ) {l h : ℕ} → l ≡ rangeAt b k .low → h ≡ rangeAt b k .high → f ≤ l → h ≤ u → b ≡ set b k (shared (range l h) (range f u))
-shared-all b k f u {l} {h} el eh p q =
-    let x : max l f ≡ rangeAt b k .low = omega arith in
-    let y : min h u ≡ rangeAt b k .high = omega arith in
+shared-all : (b : Region) (k : ℕ) (s : Range) → s .low ≤ rangeAt b k .low → rangeAt b k .high ≤ s .high → b ≡ set b k (shared (rangeAt b k) s)
+shared-all b k s p q =
+    let r : Range = rangeAt b k in
+    let x : max (r .low) (s .low) ≡ r .low = omega arith in
+    let y : min (r .high) (s .high) ≡ r .high = omega arith in
     sym (ap (set b k) (λ i. range (x i) (y i)) ∙ set-getD b k (range 0 0))
 
 one-or-none : (t : Bool) (b : Region) → length (cond t (b ∷ []) []) ≤ 1
 one-or-none true b = omega arith
 one-or-none false b = omega arith
 
--- A low part adds one box at most.
+-- A low part adds one box at most, and the cut is still at its field when it is stored.
 pub below-few : {half : ℕ} {work work′ : List ℕ} {m r : ℕ} (b : Region) (k x : ℕ) → Stored half work m (partBelow b k x) work′ r → r ≤ m + 1
 below-few b k x s = omega (arith, s .count, one-or-none (ltb (rangeAt b k .low) x) (set b k (range (rangeAt b k .low) (x - 1))))
 
--- At field k, of the lows and highs of d and of a: the first k fields are done, c is d with the shared ranges there, m boxes
--- stand, and whatever is left of the fields from k on, stored behind them, makes the whole cut.
-pub record Cutting (half : ℕ) (work₀ : List ℕ) (n : ℕ) (lows highs allowLows allowHighs work : List ℕ) (m : ℕ) (c : Region) (k : ℕ) : Type 0 where
+pub cut-at-kept : {half : ℕ} {work work′ : List ℕ} {at : ℕ} {cut : Underway} {k : ℕ} {ends : Ends} {l : List Region} {r : ℕ} → CutAt half work at cut k ends
+    → Stored half work (cut .stored) l work′ r → r ≤ cut .stored + 1 → cut .stored + 1 < most → CutAt half work′ at (record { rest = cut .rest; stored = r }) k ends
+cut-at-kept {half} {work} {work′} {at} {cut} {k} {ends} {l} {r} g s h q = record {
+  room = rw (s .bytes, length-store) (g .room);
+  few = omega arith;
+  before = g .before;
+  inside = g .inside;
+  own = g .own;
+  behind = behind-kept k (regionOf (cut .rest)) at half work work′ (ap (take half) (s .bytes) ∙ take-store half half work (cut .stored) l (omega arith)) (g .before) (g .behind);
+}
+
+-- At field k: the first k fields are done, c is d with the shared ranges there, m boxes stand, and whatever is left of the fields
+-- from k on, stored behind them, makes the whole cut. The first half is as it was.
+pub record Cutting (half : ℕ) (work₀ : List ℕ) (n : ℕ) (d a : Region) (work : List ℕ) (m : ℕ) (c : Region) (k : ℕ) : Type 0 where
   pub upto : k ≤ fields
   pub few : m ≤ n + 2 * k
   pub wide : length work ≡ length work₀
-  pub own : (length lows ≡ fields) × (length highs ≡ fields)
-  pub allow : (length allowLows ≡ fields) × (length allowHighs ≡ fields)
+  pub alike : take half work ≡ take half work₀
+  pub own : length d ≡ fields
+  pub allow : length a ≡ fields
   pub full : length c ≡ fields
-  pub later : drop k c ≡ drop k (ranges lows highs)
-  pub onward : (last : List ℕ) (r : ℕ) → Stored half work m (rest k c (ranges allowLows allowHighs)) last r
-      → Stored half work₀ n (cut (ranges lows highs) (ranges allowLows allowHighs)) last r
+  pub later : drop k c ≡ drop k d
+  pub onward : (last : List ℕ) (r : ℕ) → Stored half work m (rest k c a) last r → Stored half work₀ n (cut d a) last r
 
-all-fields : (ls hs : List ℕ) → (length ls ≡ fields) × (length hs ≡ fields) → length (ranges ls hs) ≡ fields
-all-fields ls hs e = ranges-length ls hs (e .0 ∙ sym (e .1)) ∙ e .0
-
-pub cutting-first : (half : ℕ) (work : List ℕ) (n : ℕ) (lows highs allowLows allowHighs : List ℕ) → (length lows ≡ fields) × (length highs ≡ fields) → (length allowLows ≡ fields) × (length allowHighs ≡ fields)
-    → Cutting half work n lows highs allowLows allowHighs work n (ranges lows highs) 0
-cutting-first half work n lows highs allowLows allowHighs e f = record {
+pub cutting-first : (half : ℕ) (work : List ℕ) (n : ℕ) (d a : Region) → length d ≡ fields → length a ≡ fields → share d a ≡ true → Cutting half work n d a work n d 0
+cutting-first half work n d a e f t = record {
   upto = omega arith;
   few = omega arith;
   wide = refl;
+  alike = refl;
   own = e;
   allow = f;
-  full = all-fields lows highs e;
+  full = e;
   later = refl;
-  onward = λ last r s. rw rest-all at s;
+  onward = λ last r s. rw (rest-all d a t) at s;
 }
 
-module _ {half : ℕ} {work₀ : List ℕ} {n : ℕ} {lows highs allowLows allowHighs work : List ℕ} {m : ℕ} {c : Region} {k : ℕ}
-    (g : Cutting half work₀ n lows highs allowLows allowHighs work m c k) where
+module _ {half : ℕ} {work₀ : List ℕ} {n : ℕ} {d a : Region} {work : List ℕ} {m : ℕ} {c : Region} {k : ℕ} (g : Cutting half work₀ n d a work m c k) where
   module _ (t : k < fields) where
     -- The field is not done: c's range there is d's.
-    pub own-range : rangeAt c k ≡ range (getD lows k 0) (getD highs k 0)
+    own-range : rangeAt c k ≡ rangeAt d k
     own-range =
         let e : k + 0 ≡ k = omega arith in
         let q : (b : Region) → rangeAt (drop k b) 0 ≡ rangeAt b k = λ b. getD-drop k b 0 (range 0 0) ∙ ap (rangeAt b) e in
-        sym (q c) ∙ (ap (λ (b : Region). rangeAt b 0) (g .later) ∙ (q (ranges lows highs) ∙ ranges-at lows highs k (g .own .0 ∙ sym (g .own .1))))
+        sym (q c) ∙ (ap (λ (b : Region). rangeAt b 0) (g .later) ∙ q d)
 
-    allow-range : rangeAt (ranges allowLows allowHighs) k ≡ range (getD allowLows k 0) (getD allowHighs k 0)
-    allow-range = ranges-at allowLows allowHighs k (g .allow .0 ∙ sym (g .allow .1))
+    later-next : drop (k + 1) c ≡ drop (k + 1) d
+    later-next = let w : (b : Region) → drop (k + 1) b ≡ drop 1 (drop k b) = λ b. sym (drop-drop 1 k b) in w c ∙ (ap (drop 1) (g .later) ∙ sym (w d))
 
-    in-c : k < length c
-    in-c = omega (arith, g .full)
+    -- The fields behind it stand where d stands.
+    cutting-behind : (at : ℕ) → at + boxSize ≤ half → take boxSize (drop at work₀) ≡ boxBytes d → Behind k c at work
+    cutting-behind at h e = behind-own k c t (g .full) work at d (g .own) (bytes-alike at half work₀ work (g .alike) h ∙ e) later-next
 
-    in-allow : k < length (ranges allowLows allowHighs)
-    in-allow = omega (arith, all-fields allowLows allowHighs (g .allow))
-
-    -- The fields share no value: the box itself, and nothing after it.
-    pub cutting-above : {last : List ℕ} {r : ℕ} → getD allowHighs k 0 < getD lows k 0 → Stored half work m (c ∷ []) last r
-        → Stored half work₀ n (cut (ranges lows highs) (ranges allowLows allowHighs)) last r
-    cutting-above {last} {r} p s = g .onward last r (rw (rest-above k c (ranges allowLows allowHighs) in-c in-allow (rw (own-range, allow-range) p)) s)
-
-    pub cutting-below : {last : List ℕ} {r : ℕ} → getD highs k 0 < getD allowLows k 0 → Stored half work m (c ∷ []) last r
-        → Stored half work₀ n (cut (ranges lows highs) (ranges allowLows allowHighs)) last r
-    cutting-below {last} {r} p s = g .onward last r (rw (rest-below k c (ranges allowLows allowHighs) in-c in-allow (rw (own-range, allow-range) p)) s)
-
-    -- They share a value: the low part, the high part, and on with the shared range.
-    pub cutting-next : {low high : List ℕ} {ml mh : ℕ} {next : Region} → getD lows k 0 ≤ getD allowHighs k 0 → getD allowLows k 0 ≤ getD highs k 0
-        → Stored half work m (partBelow c k (getD allowLows k 0)) low ml → Stored half low ml (partAbove c k (getD allowHighs k 0)) high mh
-        → next ≡ set c k (shared (range (getD lows k 0) (getD highs k 0)) (range (getD allowLows k 0) (getD allowHighs k 0)))
-        → Cutting half work₀ n lows highs allowLows allowHighs high mh next (k + 1)
-    cutting-next {low} {high} {ml} {mh} {next} p q s z e =
-        let a : Region = ranges allowLows allowHighs in
-        let f : ℕ = getD allowLows k 0 in
-        let u : ℕ = getD allowHighs k 0 in
-        let both : Range = shared (range (getD lows k 0) (getD highs k 0)) (range f u) in
+    -- The low part, the high part, and on with the shared range.
+    cutting-next : {last : List ℕ} {r : ℕ} {next : Region} → half ≤ length work₀ → Stored half work m (partBelow c k (rangeAt a k .low) ++ partAbove c k (rangeAt a k .high)) last r
+        → next ≡ set c k (shared (rangeAt c k) (rangeAt a k)) → Cutting half work₀ n d a last r next (k + 1)
+    cutting-next {last} {r} {next} room s e =
+        let f : ℕ = rangeAt a k .low in
+        let u : ℕ = rangeAt a k .high in
+        let both : Range = shared (rangeAt c k) (rangeAt a k) in
         let x = one-or-none (ltb (rangeAt c k .low) f) (set c k (range (rangeAt c k .low) (f - 1))) in
         let y = one-or-none (ltb u (rangeAt c k .high)) (set c k (range (u + 1) (rangeAt c k .high))) in
-        let w : (b : Region) → drop (k + 1) b ≡ drop 1 (drop k b) = λ b. sym (drop-drop 1 k b) in
-        let split : rest k c a ≡ partBelow c k f ++ (partAbove c k u ++ rest (k + 1) next a) =
-        rest-meets k c a in-c in-allow (rw (own-range, allow-range) p) (rw (own-range, allow-range) q) ∙ rw (own-range, allow-range, e) in
+        let z = length-append (partBelow c k f) (partAbove c k u) in
+        let split : rest k c a ≡ (partBelow c k f ++ partAbove c k u) ++ rest (k + 1) next a =
+        rest-field k c a (omega (arith, g .full)) (omega (arith, g .allow)) ∙ rw e (sym (append-assoc (partBelow c k f) (partAbove c k u) (rest (k + 1) (set c k both) a))) in
         record {
           upto = omega arith;
-          few = omega (arith, s .count, z .count, g .few);
-          wide = ap length (z .bytes) ∙ (length-store half low ml (partAbove c k u) ∙ (ap length (s .bytes) ∙ (length-store half work m (partBelow c k f) ∙ g .wide)));
+          few = omega (arith, s .count, g .few);
+          wide = ap length (s .bytes) ∙ (length-store half work m (partBelow c k f ++ partAbove c k u) ∙ g .wide);
+          alike = ap (take half) (s .bytes) ∙ (take-store half half work m (partBelow c k f ++ partAbove c k u) (omega arith) ∙ g .alike);
           own = g .own;
           allow = g .allow;
           full = ap length e ∙ (length-set c k both ∙ g .full);
-          later = ap (drop (k + 1)) e ∙ (drop-set-lt (k + 1) c k both (omega arith) ∙ (w c ∙ (ap (drop 1) (g .later) ∙ sym (w (ranges lows highs)))));
-          onward = λ last r v. g .onward last r (rw split (stored-then s (stored-then z v)));
+          later = ap (drop (k + 1)) e ∙ (drop-set-lt (k + 1) c k both (omega arith) ∙ later-next);
+          onward = λ l q v. g .onward l q (rw split (stored-then s v));
         }
 
-  pub cutting-last : fields ≤ k → Stored half work₀ n (cut (ranges lows highs) (ranges allowLows allowHighs)) work m
-  cutting-last h =
-      g .onward work m (rw (rest-done k c (ranges allowLows allowHighs) (omega (arith, g .full)) (omega (arith, all-fields allowLows allowHighs (g .allow)))) (stored-none half work m))
+    -- A field that lies in the allow's gives no part, and is narrowed by nothing.
+    pub cutting-past : half ≤ length work₀ → rangeAt a k .low ≤ rangeAt d k .low → rangeAt d k .high ≤ rangeAt a k .high → Cutting half work₀ n d a work m c (k + 1)
+    cutting-past room p q =
+        let f : ℕ = rangeAt a k .low in
+        let u : ℕ = rangeAt a k .high in
+        let p′ : f ≤ rangeAt c k .low = rw own-range p in
+        let q′ : rangeAt c k .high ≤ u = rw own-range q in
+        cutting-next room (rw (below-none c k f p′, above-none c k u q′) (stored-none half work m)) (shared-all c k (rangeAt a k) p′ q′)
 
--- A box that stays: at field k nothing has been cut off.
-pub record Staying (d a : Region) (k : ℕ) : Type 0 where
-  pub upto : k ≤ fields
-  pub full : length d ≡ fields
-  pub alike : length a ≡ fields
-  pub left : rest k d a ≡ cut d a
+  pub cutting-last : fields ≤ k → Stored half work₀ n (cut d a) work m
+  cutting-last h = g .onward work m (rw (rest-done k c a (omega (arith, g .full))) (stored-none half work m))
 
-pub staying-first : (d a : Region) → length d ≡ fields → length a ≡ fields → Staying d a 0
-staying-first d a e f = record { upto = omega arith; full = e; alike = f; left = rest-all d a }
+-- The same at the ends that the code has read.
+module _ {half : ℕ} {work₀ : List ℕ} {n : ℕ} {d a : Region} {work : List ℕ} {cut : Underway} {k : ℕ} (g : Cutting half work₀ n d a work (cut .stored) (regionOf (cut .rest)) k) (t : k < fields)
+    {ends : Ends} (el : ends .low ≡ rangeAt d k .low) (eh : ends .high ≡ rangeAt d k .high) (ef : ends .from ≡ rangeAt a k .low) (et : ends .to ≡ rangeAt a k .high) where
+  pub cutting-at : (at : ℕ) → half + boxSize * places ≤ length work₀ → n + 2 * fields ≤ most → at + boxSize ≤ half → take boxSize (drop at work₀) ≡ boxBytes d → CutAt half work at cut k ends × (cut .stored + 1 < most)
+  cutting-at at room few before written = (
+    record {
+      room = omega (arith, g .wide);
+      few = omega (arith, g .few);
+      before = before;
+      inside = t;
+      own = (λ i. range (el i) (eh i)) ∙ sym (own-range g t);
+      behind = cutting-behind g t at before written;
+    },
+    omega (arith, g .few),
+  )
 
-module _ {d a : Region} {k : ℕ} (g : Staying d a k) (t : k < fields) {l h f u : ℕ} (el : l ≡ rangeAt d k .low) (eh : h ≡ rangeAt d k .high) (ef : f ≡ rangeAt a k .low) (eu : u ≡ rangeAt a k .high) where
-  pub staying-above : u < l → cut d a ≡ d ∷ []
-  staying-above p = sym (g .left) ∙ rest-above k d a (omega (arith, g .full)) (omega (arith, g .alike)) (omega arith)
-
-  pub staying-below : h < f → cut d a ≡ d ∷ []
-  staying-below p = sym (g .left) ∙ rest-below k d a (omega (arith, g .full)) (omega (arith, g .alike)) (omega arith)
-
-  pub staying-next : l ≤ u → f ≤ h → f ≤ l → h ≤ u → Staying d a (k + 1)
-  staying-next p q v w = record {
-    upto = omega arith;
-    full = g .full;
-    alike = g .alike;
-    left = sym (rest-within k d a (omega (arith, g .full)) (omega (arith, g .alike)) (omega arith) (omega arith) (omega arith) (omega arith)) ∙ g .left;
-  }
+  pub cutting-cut : (last : List ℕ) (r : Underway) → half ≤ length work₀ → FieldCut half work cut k ends last r → Cutting half work₀ n d a last (r .stored) (regionOf (r .rest)) (k + 1)
+  cutting-cut last r room s = cutting-next g t room (rw (ef, et) at (s .parts)) (rw (ef, et) at (s .narrowed))

@@ -21,6 +21,13 @@ drop-take zero m l = let e : 0 + m ≡ m = omega arith in ap (λ (k : ℕ). take
 drop-take (suc n) m [] = let e : suc n + m ≡ suc (n + m) = omega arith in rw (e, take-nil)
 drop-take (suc n) m (a ∷ l) = let e : suc n + m ≡ suc (n + m) = omega arith in rw e (drop-take n m l)
 
+-- The bytes of a box, in a buffer that is alike up to some place behind it.
+pub bytes-alike : (at half : ℕ) (work work′ : List ℕ) → take half work′ ≡ take half work → at + boxSize ≤ half → take boxSize (drop at work′) ≡ take boxSize (drop at work)
+bytes-alike at half work work′ alike inside =
+    let q : (w : List ℕ) → take boxSize (drop at w) ≡ drop at (take (at + boxSize) (take half w)) =
+    λ w. sym (ap (drop at) (take-take (at + boxSize) half w inside) ∙ drop-take at boxSize w) in
+    q work′ ∙ (ap (λ (w : List ℕ). drop at (take (at + boxSize) w)) alike ∙ sym (q work))
+
 pub proper-all : (l : List Region) → Each Proper l → Each (Fits widths) l
 proper-all l h = each-imp Proper (Fits widths) l proper-fits h
 
@@ -70,17 +77,14 @@ module _ {n : ℕ} {work : List ℕ} (st : Stands n work) (room : boxSize * n �
 
     -- The same in a buffer that is alike up to some place behind the piece.
     module _ (half : ℕ) (work′ : List ℕ) (alike : take half work′ ≡ take half work) (inside : boxSize * i + boxSize ≤ half) where
-      bytes-alike : take boxSize (drop (boxSize * i) work′) ≡ take boxSize (drop (boxSize * i) work)
-      bytes-alike =
-          let q : (w : List ℕ) → take boxSize (drop (boxSize * i) w) ≡ drop (boxSize * i) (take (boxSize * i + boxSize) (take half w)) =
-          λ w. sym (ap (drop (boxSize * i)) (take-take (boxSize * i + boxSize) half w inside) ∙ drop-take (boxSize * i) boxSize w) in
-          q work′ ∙ (ap (λ (w : List ℕ). drop (boxSize * i) (take (boxSize * i + boxSize) w)) alike ∙ sym (q work))
+      same-bytes : take boxSize (drop (boxSize * i) work′) ≡ take boxSize (drop (boxSize * i) work)
+      same-bytes = bytes-alike (boxSize * i) half work work′ alike inside
 
       pub piece-alike : boxIn (drop (boxSize * i) work′) ≡ boxIn (drop (boxSize * i) work)
       piece-alike =
           let b : Region = boxIn (drop (boxSize * i) work) in
-          ap boxIn (sym (take-append-drop boxSize (drop (boxSize * i) work′)) ∙ ap (λ (s : List ℕ). s ++ drop boxSize (drop (boxSize * i) work′)) (bytes-alike ∙ bytes-at))
+          ap boxIn (sym (take-append-drop boxSize (drop (boxSize * i) work′)) ∙ ap (λ (s : List ℕ). s ++ drop boxSize (drop (boxSize * i) work′)) (same-bytes ∙ bytes-at))
           ∙ box-back b (drop boxSize (drop (boxSize * i) work′)) fits-at
 
       pub written-alike : take boxSize (drop (boxSize * i) work′) ≡ boxBytes (boxIn (drop (boxSize * i) work′))
-      written-alike = bytes-alike ∙ (bytes-at ∙ ap boxBytes (sym piece-alike))
+      written-alike = same-bytes ∙ (bytes-at ∙ ap boxBytes (sym piece-alike))

@@ -3,14 +3,18 @@
 use mathlib.Core.Path.{_≡_}
 use mathlib.Core.List.{List, [], _∷_, _++_}
 use mathlib.Core.Bool.{cond}
-use Prim.Native.Nat.{ℕ, _*_, _+_, _≤_}
-use lib.ListN.{length, take, drop}
-use Rattle.policy.specs.Fields.{fields, boxSize, recordSize, Limits, limits, workSize}
-use Rattle.policy.specs.Ranges.{Region}
-use Rattle.policy.specs.Cut.{group, cutEach}
+use Prim.Native.Nat.{ℕ, _*_, _+_, _<_, _≤_}
+use lib.ListN.{length, take, drop, set}
+use Rattle.policy.specs.Fields.{fields, widths, sizeOf, boxSize, recordSize, Limits, limits, workSize}
+use Rattle.policy.specs.Ranges.{range, Region}
+use Rattle.policy.specs.Values.{regionOf}
+use Rattle.policy.specs.Steps.{rangeAt, partBelow, partAbove}
+use Rattle.policy.specs.Cut.{shared, group, cutEach}
 use Rattle.policy.specs.Move.{alone, over}
 use Rattle.policy.specs.Rules.{allowsIn, Proper}
-use Rattle.wire.specs.Records.{boxesBytes, ruleIn, rulesIn, boxBytes, boxesIn}
+use Rattle.wire.specs.Records.{rangesBytes, boxesBytes, ruleIn, rulesIn, boxBytes, boxesIn}
+use Rattle.groups.specs.declared.Ends.{Ends}
+use Rattle.groups.specs.declared.Underway.{Underway}
 use Rattle.groups.specs.declared.Worked.{Worked}
 use Rattle.groups.specs.declared.Worked.the-variants.{Boxes, TooMany}
 use lib.Dec.{ltb}
@@ -58,6 +62,25 @@ store half work m (b ∷ bs) = store half (storeOne half work m b) (m + 1) bs
 pub record Stored (half : ℕ) (work : List ℕ) (m : ℕ) (bs : List Region) (work′ : List ℕ) (r : ℕ) : Type 0 where
   pub count : r ≡ m + length bs
   pub bytes : work′ ≡ store half work m bs
+
+-- The bytes of b's fields behind field k stand where the box that begins at a place has them.
+abbrev pub Behind : ℕ → Region → ℕ → List ℕ → Type 0
+Behind k b at work =
+    drop (sizeOf (take (k + 1) widths)) (take boxSize (drop at work)) ≡ rangesBytes (drop (k + 1) widths) (drop (k + 1) b)
+
+-- A cut that has come to field k, of the box that stands at a place before the half: the ends are the rest's there.
+pub record CutAt (half : ℕ) (work : List ℕ) (at : ℕ) (cut : Underway) (k : ℕ) (ends : Ends) : Type 0 where
+  pub room : half + boxSize * places ≤ length work
+  pub few : cut .stored < most
+  pub before : at + boxSize ≤ half
+  pub inside : k < fields
+  pub own : range (ends .low) (ends .high) ≡ rangeAt (regionOf (cut .rest)) k
+  pub behind : Behind k (regionOf (cut .rest)) at work
+
+-- What the cut of one field leaves: its two parts stored, and the rest with the shared range there.
+pub record FieldCut (half : ℕ) (work : List ℕ) (cut : Underway) (k : ℕ) (ends : Ends) (work′ : List ℕ) (r : Underway) : Type 0 where
+  pub parts : Stored half work (cut .stored) (partBelow (regionOf (cut .rest)) k (ends .from) ++ partAbove (regionOf (cut .rest)) k (ends .to)) work′ (r .stored)
+  pub narrowed : regionOf (r .rest) ≡ set (regionOf (cut .rest)) k (shared (rangeAt (regionOf (cut .rest)) k) (range (ends .from) (ends .to)))
 
 -- n pieces stand at the front: each is a box that number 4 lets pass, and its bytes are those of the box.
 pub record Stands (n : ℕ) (work : List ℕ) : Type 0 where

@@ -9,17 +9,16 @@ ghost use mathlib.Core.Path.{_≡_};
 ghost use mathlib.Core.List.{_∷_, []};
 ghost use mathlib.Core.Bool.{true};
 ghost use Prim.Native.Nat.{_+_, _*_, _≤_, _<_, min, max};
-ghost use lib.ListN.{length, take, drop, set};
+ghost use lib.ListN.{length, take, drop};
 ghost use lib.Seq.{sets};
 ghost use Rattle.lists.specs.Lists.{every};
 ghost use Rattle.policy.specs.Fields.{fields, boxSize, recordSize, limits, workSize};
-ghost use Rattle.policy.specs.Ranges.{range};
 ghost use Rattle.policy.specs.Rules.{sound, Proper};
 ghost use Rattle.policy.specs.Values.{regionOf};
-ghost use Rattle.policy.specs.Steps.{rangeAt, partBelow, partAbove};
-ghost use Rattle.policy.specs.Cut.{shared, cut, cutEach};
+ghost use Rattle.policy.specs.Steps.{partBelow, partAbove};
+ghost use Rattle.policy.specs.Cut.{share, cut, cutEach};
 ghost use Rattle.wire.specs.Records.{boxBytes, boxIn, boxesIn, rulesIn};
-ghost use Rattle.groups.specs.Steps.{WorkedOut, places, most, Stored, Stands, Untouched, Taken};
+ghost use Rattle.groups.specs.Steps.{WorkedOut, places, most, Stored, Behind, CutAt, FieldCut, Stands, Untouched, Taken};
 
 pub const WORK_BYTES: usize = 2 * PIECES_MOST * BOX_BYTES;
 
@@ -43,110 +42,18 @@ fn smaller(x: u32, y: u32) -> u32
     if x < y { x } else { y }
 }
 
-// A box stored behind m others. Past the last place it is counted and not written.
-fn store_box(work: &mut [u8], half: usize, m: usize, b: Box) -> usize
-    requires { ⌜ (half + boxSize * places ≤ length (now work)) × (m < most) ⌝ }
-    ensures { λ r. ⌜ Stored half (now (work .entry)) m (regionOf b ∷ []) (now (work .exit)) r ⌝ }
-{
-    if m < PIECES_MOST {
-        wire::put_box(work, half + BOX_BYTES * m, b);
-        return m + 1;
-    }
-    m + 1
+// One field of a cut: the range of the box that is cut, and that of the allow.
+struct Ends {
+    low: u32,
+    high: u32,
+    from: u32,
+    to: u32,
 }
 
-// The part of a box whose field k, that begins at low, is below x: stored, if there is one.
-fn store_low(work: &mut [u8], half: usize, m: usize, b: Box, k: usize, low: u32, x: u32) -> usize
-    requires { ⌜ (half + boxSize * places ≤ length (now work)) × (m < most) × (k < fields) × (low ≡ rangeAt (regionOf b) k .low) ⌝ }
-    ensures { λ r. ⌜ Stored half (now (work .entry)) m (partBelow (regionOf b) k x) (now (work .exit)) r ⌝ }
-{
-    if low < x {
-        return store_box(work, half, m, b.low_part(k, x));
-    }
-    m
-}
-
-// The part of a box whose field k, that ends at high, is above x: stored, if there is one.
-fn store_high(work: &mut [u8], half: usize, m: usize, b: Box, k: usize, high: u32, x: u32) -> usize
-    requires { ⌜ (half + boxSize * places ≤ length (now work)) × (m < most) × (k < fields) × (high ≡ rangeAt (regionOf b) k .high) ⌝ }
-    ensures { λ r. ⌜ Stored half (now (work .entry)) m (partAbove (regionOf b) k x) (now (work .exit)) r ⌝ }
-{
-    if x < high {
-        return store_box(work, half, m, b.high_part(k, x));
-    }
-    m
-}
-
-// The box with the shared range in field k, where it has the range low to high and the allow that of `from` to `to`. Most
-// fields are narrowed by nothing.
-fn narrowed(b: Box, k: usize, low: u32, high: u32, from: u32, to: u32) -> Box
-    requires { ⌜ (k < fields) × (low ≡ rangeAt (regionOf b) k .low) × (high ≡ rangeAt (regionOf b) k .high) ⌝ }
-    ensures { λ r. ⌜ regionOf r ≡ set (regionOf b) k (shared (range low high) (range from to)) ⌝ }
-{
-    if from <= low {
-        if high <= to {
-            return b;
-        }
-    }
-    b.narrow(k, larger(low, from), smaller(high, to))
-}
-
-// The pieces of d without a, stored behind n others; how many boxes are then there.
-fn cut_box(work: &mut [u8], half: usize, n: usize, d: Box, a: Box) -> usize
-    requires { ⌜ (half + boxSize * places ≤ length (now work)) × (n + 2 * fields ≤ most) ⌝ }
-    ensures { λ r. ⌜ Stored half (now (work .entry)) n (cut (regionOf d) (regionOf a)) (now (work .exit)) r ⌝ }
-{
-    let lows = d.low;
-    let highs = d.high;
-    let allow_lows = a.low;
-    let allow_highs = a.high;
-    let mut rest = d;
-    let mut m = n;
-    let mut k: usize = 0;
-    while k < FIELDS {
-        let low = lows[k];
-        let high = highs[k];
-        let allow_low = allow_lows[k];
-        let allow_high = allow_highs[k];
-        if allow_high < low {
-            return store_box(work, half, m, rest);
-        }
-        if high < allow_low {
-            return store_box(work, half, m, rest);
-        }
-        m = store_low(work, half, m, rest, k, low, allow_low);
-        m = store_high(work, half, m, rest, k, high, allow_high);
-        rest = narrowed(rest, k, low, high, allow_low, allow_high);
-        k += 1;
-    }
-    m
-}
-
-// Whether the cut of d by a is seen to be d alone: some field shares nothing, and those before it lie in a's.
-fn stays(d: Box, a: Box) -> bool
-    ensures { λ r. ⌜ (r ≡ true → cut (regionOf d) (regionOf a) ≡ regionOf d ∷ []) ⌝ }
-{
-    let mut k: usize = 0;
-    while k < FIELDS {
-        let low = d.low_at(k);
-        let high = d.high_at(k);
-        let allow_low = a.low_at(k);
-        let allow_high = a.high_at(k);
-        if allow_high < low {
-            return true;
-        }
-        if high < allow_low {
-            return true;
-        }
-        if low < allow_low {
-            return false;
-        }
-        if allow_high < high {
-            return false;
-        }
-        k += 1;
-    }
-    false
+// A cut under way: the box that goes on, and how many boxes are stored.
+struct Underway {
+    rest: Box,
+    stored: usize,
 }
 
 // The bytes of one box copied to another place.
@@ -174,17 +81,114 @@ fn keep_box(work: &mut [u8], half: usize, m: usize, at: usize) -> usize
     m + 1
 }
 
+// A part of the box that stands at a place, with the fields behind k as they are there, stored behind m others: as a copy of that box
+// and the fields up to k over it.
+fn store_part(work: &mut [u8], half: usize, m: usize, at: usize, k: usize, part: Box) -> usize
+    requires { ⌜ (half + boxSize * places ≤ length (now work)) × (m < most) × (at + boxSize ≤ length (now work)) × (k < fields) ⌝ }
+    requires behind { ⌜ Behind k (regionOf part) at (now work) ⌝ }
+    ensures { λ r. ⌜ Stored half (now (work .entry)) m (regionOf part ∷ []) (now (work .exit)) r ⌝ }
+{
+    if m < PIECES_MOST {
+        let to = half + BOX_BYTES * m;
+        move_box(work, at, to);
+        wire::put_fields(work, to, k + 1, part);
+        return m + 1;
+    }
+    m + 1
+}
+
+// The part of the rest that is below the allow in field k: stored, if there is one.
+fn store_low(work: &mut [u8], half: usize, at: usize, cut: Underway, k: usize, ends: Ends) -> usize
+    requires { ⌜ CutAt half (now work) at cut k ends ⌝ }
+    ensures { λ r. ⌜ Stored half (now (work .entry)) (cut .stored) (partBelow (regionOf (cut .rest)) k (ends .from)) (now (work .exit)) r ⌝ }
+{
+    if ends.low < ends.from {
+        let rest = cut.rest;
+        return store_part(work, half, cut.stored, at, k, rest.low_part(k, ends.from));
+    }
+    cut.stored
+}
+
+// The part of the rest that is above the allow in field k: stored, if there is one.
+fn store_high(work: &mut [u8], half: usize, at: usize, cut: Underway, k: usize, ends: Ends) -> usize
+    requires { ⌜ CutAt half (now work) at cut k ends ⌝ }
+    ensures { λ r. ⌜ Stored half (now (work .entry)) (cut .stored) (partAbove (regionOf (cut .rest)) k (ends .to)) (now (work .exit)) r ⌝ }
+{
+    if ends.to < ends.high {
+        let rest = cut.rest;
+        return store_part(work, half, cut.stored, at, k, rest.high_part(k, ends.to));
+    }
+    cut.stored
+}
+
+// Field k of the cut of the box that stands at a place: its low part and its high part stored, and the rest narrowed to the shared
+// range.
+fn cut_field(
+    work: &mut [u8],
+    half: usize,
+    at: usize,
+    cut: Underway,
+    k: usize,
+    ends: Ends,
+) -> Underway
+    requires { ⌜ CutAt half (now work) at cut k ends × (cut .stored + 1 < most) ⌝ }
+    ensures { λ r. ⌜ FieldCut half (now (work .entry)) cut k ends (now (work .exit)) r ⌝ }
+{
+    let rest = cut.rest;
+    let below = store_low(work, half, at, cut, k, ends);
+    let lower = Underway {
+        rest,
+        stored: below,
+    };
+    let stored = store_high(work, half, at, lower, k, ends);
+    let rest = rest.narrow(k, larger(ends.low, ends.from), smaller(ends.high, ends.to));
+    Underway { rest, stored }
+}
+
+// The pieces of d, which stands at a place, without a, with which it shares a packet: stored behind n others; how many boxes are then
+// there. A field is cut in a function of its own that is called from two places: so the compiler unrolls the loop first, and then
+// makes code for each field.
+fn cut_box(work: &mut [u8], half: usize, n: usize, at: usize, d: Box, a: Box) -> usize
+    requires { ⌜ (half + boxSize * places ≤ length (now work)) × (n + 2 * fields ≤ most) × (at + boxSize ≤ half) × (share (regionOf d) (regionOf a) ≡ true) ⌝ }
+    requires written { ⌜ take boxSize (drop at (now work)) ≡ boxBytes (regionOf d) ⌝ }
+    ensures { λ r. ⌜ Stored half (now (work .entry)) n (cut (regionOf d) (regionOf a)) (now (work .exit)) r ⌝ }
+{
+    let mut cut = Underway { rest: d, stored: n };
+    let mut k: usize = 0;
+    while k < FIELDS {
+        let low = d.low_at(k);
+        let high = d.high_at(k);
+        let from = a.low_at(k);
+        let to = a.high_at(k);
+        let ends = Ends {
+            low,
+            high,
+            from,
+            to,
+        };
+        if low < from {
+            cut = cut_field(work, half, at, cut, k, ends);
+        } else {
+            if to < high {
+                cut = cut_field(work, half, at, cut, k, ends);
+            }
+        }
+        k += 1;
+    }
+    cut.stored
+}
+
 // What a leaves of the box whose bytes stand at a place, stored behind m others.
 fn cut_piece(work: &mut [u8], half: usize, m: usize, at: usize, a: Box) -> usize
-    requires { ⌜ (half + boxSize * places ≤ length (now work)) × (m + 2 * fields ≤ most) × (at + boxSize ≤ length (now work)) ⌝ }
+    requires { ⌜ (half + boxSize * places ≤ length (now work)) × (m + 2 * fields ≤ most) × (at + boxSize ≤ half) ⌝ }
     requires written { ⌜ take boxSize (drop at (now work)) ≡ boxBytes (boxIn (drop at (now work))) ⌝ }
     ensures { λ r. ⌜ Stored half (now (work .entry)) m (cut (boxIn (drop at (now (work .entry)))) (regionOf a)) (now (work .exit)) r ⌝ }
 {
     let d = wire::box_at(work, at);
-    if stays(d, a) {
-        return keep_box(work, half, m, at);
+    if d.shares(a) {
+        return cut_box(work, half, m, at, d, a);
     }
-    cut_box(work, half, m, d, a)
+    keep_box(work, half, m, at)
 }
 
 // How many pieces at the front a leaves as they are.
@@ -195,7 +199,7 @@ fn first_touched(work: &[u8], n: usize, a: Box) -> usize
     let mut i: usize = 0;
     while i < n {
         let d = wire::box_at(work, BOX_BYTES * i);
-        if !stays(d, a) {
+        if d.shares(a) {
             return i;
         }
         i += 1;

@@ -2,13 +2,13 @@
 use mathlib.Core.Path.{refl}
 use Rattle.policy.specs.Fields.{highest}
 use Rattle.policy.specs.Ranges.{inside, fullOver}
-use Rattle.policy.specs.Cut.{pieces, cut, cutEach, group}
+use Rattle.policy.specs.Cut.{share, pieces, cut, cutEach, group}
 use Rattle.policy.specs.Rules.{firstFrom, allowsIn}
 use Rattle.policy.specs.Move.{slots, boxesOf}
 use Rattle.policy.specs.Boundary.{Holds, Decides, Right, BoundaryTheorem}
 use Rattle.policy.proofs.Cuts.{cut-itself}
 
 pub boundary-table-right : BoundaryTheorem
-unfolding Right Holds Decides group cut pieces cutEach highest fullOver firstFrom inside slots boxesOf allowsIn
+unfolding Right Holds Decides group cut share pieces cutEach highest fullOver firstFrom inside slots boxesOf allowsIn
 boundary-table-right =
     (refl, (refl, (refl, (cut-itself, (refl, (refl, (refl, (refl, (refl, (((λ p h. rw h), ((λ p h. rw h), ((λ p h. rw h), tt))), (refl, (refl, tt))))))))))))

@@ -2,7 +2,7 @@
 -- is never empty and lies in d, and there are at most two for each field. Assumes nothing.
 use mathlib.Core.Path.{_≡_, refl, ap, sym, _∙_}
 use mathlib.Core.List.{List, [], _∷_, _++_, map}
-use mathlib.Core.Bool.{Bool, true, false, cond, not, _&&_, true≢false}
+use mathlib.Core.Bool.{Bool, true, false, cond, not, _&&_, true≢false, false≢true}
 use mathlib.Core.Logic.{_⊎_, inl, inr, ⊎-elim}
 use Prim.Native.Nat.{ℕ, suc, _+_, _-_, _*_, _≤_, _<_}
 use native.Mathlib.Omega.{arith}
@@ -14,7 +14,7 @@ use Rattle.lists.proofs.Tests.{and-true, and-both, bool-eq}
 use Rattle.lists.proofs.Lists.{each-append, each-map}
 use Rattle.policy.specs.Ranges.{Range, range, Region, Packet, within, inside, Whole, Within}
 use Rattle.policy.specs.Demands.{Piece}
-use Rattle.policy.specs.Cut.{meets, lowPart, highPart, shared, before, pieces, cut}
+use Rattle.policy.specs.Cut.{meets, share, lowPart, highPart, shared, before, pieces, cut}
 
 -- Bool as a number, and how many boxes of a list have a packet
 abbrev pub one : Bool → ℕ
@@ -179,127 +179,116 @@ join true true true false m n h = omega arith
 join true false true ia m n h = omega arith
 join false ws true ia m n h = omega arith
 
-alone : (wr ws ip ia : Bool) → (wr ≡ true → ws ≡ true → ⊥) → one (wr && ip) + 0 ≡ one (wr && ip && not (ws && ia))
-alone false ws ip ia h = refl
-alone true true ip ia h = absurd (h refl refl)
-alone true false false ia h = refl
-alone true false true ia h = refl
-
-apart-field : (x : ℕ) (r s : Range) → meets r s ≡ false → within x r ≡ true → within x s ≡ true → ⊥
-apart-field x r s e h k =
-    let f = within-fact x r h in
-    let g = within-fact x s k in
-    let z : true ≡ false = sym (and-both (leb (r .low) (s .high)) (leb (s .low) (r .high)) (le-leb (r .low) (s .high) (omega arith)) (le-leb (s .low) (r .high) (omega arith))) ∙ e in
-    true≢false z
-
-and-id : (b : Bool) → one b + 0 ≡ one (b && true)
-and-id true = refl
-and-id false = refl
-
 -- a packet is in exactly one piece if it is in d and not in a, and in none otherwise
-pieces-hits : (p : Packet) (d a : Region) → Whole a → hits p (pieces d a) ≡ one (inside p d && not (inside p a))
-unfolding hits inside pieces Whole
-pieces-hits [] [] [] w = refl
-pieces-hits (x ∷ p) [] [] w = refl
-pieces-hits [] [] (s ∷ a) w = refl
-pieces-hits (x ∷ p) [] (s ∷ a) w = refl
-pieces-hits [] (r ∷ d) [] w = refl
-pieces-hits (x ∷ p) (r ∷ d) [] w = and-id (within x r && inside p d)
-pieces-hits [] (r ∷ d) (s ∷ a) w = go (meets r s)
-  where
-    go : (m : Bool) → hits [] (cond m (map (before d) (lowPart r s) ++ (map (before d) (highPart r s) ++ map (_∷_ (shared r s)) (pieces d a))) ((r ∷ d) ∷ [])) ≡ 0
-    go false = refl
-    go true = simp (hits-append, hits-none-before, hits-none-after)
-pieces-hits (x ∷ p) (r ∷ d) (s ∷ a) w = go (meets r s) refl (pieces-hits p d a (w .1))
-  where
-    go : (m : Bool) → meets r s ≡ m → hits p (pieces d a) ≡ one (inside p d && not (inside p a))
-        → hits (x ∷ p) (cond m (map (before d) (lowPart r s) ++ (map (before d) (highPart r s) ++ map (_∷_ (shared r s)) (pieces d a))) ((r ∷ d) ∷ []))
-        ≡ one (within x r && inside p d && not (within x s && inside p a))
-    go false e ih = alone (within x r) (within x s) (inside p d) (inside p a) (apart-field x r s e)
-    go true e ih =
-        rw (hits-append, hits-append, hits-before, hits-before, hits-after x p (shared r s) (pieces d a), ih, shared-field x r s e (w .0))
-        (join (within x r) (within x s) (inside p d) (inside p a) (sums x (lowPart r s)) (sums x (highPart r s)) (parts-field x r s e (w .0)))
+pieces-hits : (p : Packet) (d a : Region) → Whole a → share d a ≡ true → hits p (pieces d a) ≡ one (inside p d && not (inside p a))
+unfolding hits inside share pieces Whole
+pieces-hits [] [] [] w e = refl
+pieces-hits (x ∷ p) [] [] w e = refl
+pieces-hits p [] (s ∷ a) w e = absurd (false≢true e)
+pieces-hits p (r ∷ d) [] w e = absurd (false≢true e)
+pieces-hits [] (r ∷ d) (s ∷ a) w e = simp (hits-append, hits-none-before, hits-none-after)
+pieces-hits (x ∷ p) (r ∷ d) (s ∷ a) w e =
+    let f = and-true (meets r s) (share d a) e in
+    rw (hits-append, hits-append, hits-before, hits-before, hits-after x p (shared r s) (pieces d a), pieces-hits p d a (w .1) (f .1), shared-field x r s (f .0) (w .0))
+    (join (within x r) (within x s) (inside p d) (inside p a) (sums x (lowPart r s)) (sums x (highPart r s)) (parts-field x r s (f .0) (w .0)))
 
 pub within-self : (d : Region) → Within d d
 unfolding Within
 within-self [] = tt
 within-self (r ∷ d) = (omega arith, omega arith, within-self d)
 
-pieces-inside : (d a : Region) → Whole d → Whole a → Each (Piece d) (pieces d a)
-unfolding pieces Whole Within Each
-pieces-inside [] [] u v = tt
-pieces-inside [] (s ∷ a) u v = ((tt, tt), tt)
-pieces-inside (r ∷ d) [] u v = ((u, within-self (r ∷ d)), tt)
-pieces-inside (r ∷ d) (s ∷ a) u v = go (meets r s) refl (pieces-inside d a (u .1) (v .1))
+pieces-inside : (d a : Region) → Whole d → Whole a → share d a ≡ true → Each (Piece d) (pieces d a)
+unfolding share pieces Whole Within Each
+pieces-inside [] a u v e = tt
+pieces-inside (r ∷ d) [] u v e = tt
+pieces-inside (r ∷ d) (s ∷ a) u v e =
+    let f = and-true (meets r s) (share d a) e in
+    let m = meets-fact r s (f .0) in
+    each-append (Piece (r ∷ d)) (map (before d) (lowPart r s)) (map (before d) (highPart r s) ++ map (_∷_ (shared r s)) (pieces d a)) (low (ltb (r .low) (s .low)) refl m)
+    (each-append (Piece (r ∷ d)) (map (before d) (highPart r s)) (map (_∷_ (shared r s)) (pieces d a)) (high (ltb (s .high) (r .high)) refl m)
+    (each-map (Piece d) (Piece (r ∷ d)) (_∷_ (shared r s)) (pieces d a) (λ b h. ((omega arith, h .0), (omega arith, omega arith, h .1))) (pieces-inside d a (u .1) (v .1) (f .1))))
   where
-    low : (t : Bool) → ltb (r .low) (s .low) ≡ t → meets r s ≡ true → Each (Piece (r ∷ d)) (map (before d) (cond t (range (r .low) (s .low - 1) ∷ []) []))
-    low false e m = tt
-    low true e m =
-        let t = ltb-true (r .low) (s .low) e in
-        let f = meets-fact r s m in
-        (((omega arith, u .1), (omega arith, omega arith, within-self d)), tt)
+    low : (t : Bool) → ltb (r .low) (s .low) ≡ t → (r .low ≤ s .high) × (s .low ≤ r .high) → Each (Piece (r ∷ d)) (map (before d) (cond t (range (r .low) (s .low - 1) ∷ []) []))
+    low false g m = tt
+    low true g m = let l = ltb-true (r .low) (s .low) g in (((omega arith, u .1), (omega arith, omega arith, within-self d)), tt)
 
-    high : (t : Bool) → ltb (s .high) (r .high) ≡ t → meets r s ≡ true → Each (Piece (r ∷ d)) (map (before d) (cond t (range (s .high + 1) (r .high) ∷ []) []))
-    high false e m = tt
-    high true e m =
-        let t = ltb-true (s .high) (r .high) e in
-        let f = meets-fact r s m in
-        (((omega arith, u .1), (omega arith, omega arith, within-self d)), tt)
-
-    go : (m : Bool) → meets r s ≡ m → Each (Piece d) (pieces d a)
-        → Each (Piece (r ∷ d)) (cond m (map (before d) (lowPart r s) ++ (map (before d) (highPart r s) ++ map (_∷_ (shared r s)) (pieces d a))) ((r ∷ d) ∷ []))
-    go false e ih = ((u, within-self (r ∷ d)), tt)
-    go true e ih =
-        let f = meets-fact r s e in
-        each-append (Piece (r ∷ d)) (map (before d) (lowPart r s)) (map (before d) (highPart r s) ++ map (_∷_ (shared r s)) (pieces d a)) (low (ltb (r .low) (s .low)) refl e)
-        (each-append (Piece (r ∷ d)) (map (before d) (highPart r s)) (map (_∷_ (shared r s)) (pieces d a)) (high (ltb (s .high) (r .high)) refl e)
-        (each-map (Piece d) (Piece (r ∷ d)) (_∷_ (shared r s)) (pieces d a) (λ b h. ((omega arith, h .0), (omega arith, omega arith, h .1))) ih))
+    high : (t : Bool) → ltb (s .high) (r .high) ≡ t → (r .low ≤ s .high) × (s .low ≤ r .high) → Each (Piece (r ∷ d)) (map (before d) (cond t (range (s .high + 1) (r .high) ∷ []) []))
+    high false g m = tt
+    high true g m = let l = ltb-true (s .high) (r .high) g in (((omega arith, u .1), (omega arith, omega arith, within-self d)), tt)
 
 -- at most two pieces for each field
-pieces-few : (d a : Region) → length a ≡ length d → length (pieces d a) ≤ 2 * length d
+pieces-few : (d a : Region) → length (pieces d a) ≤ 2 * length d
 unfolding pieces
-pieces-few [] [] h = omega arith
-pieces-few [] (s ∷ a) h = omega arith
-pieces-few (r ∷ d) [] h = omega arith
-pieces-few (r ∷ d) (s ∷ a) h = go (meets r s) (pieces-few d a (omega arith))
+pieces-few [] a = omega arith
+pieces-few (r ∷ d) [] = omega arith
+pieces-few (r ∷ d) (s ∷ a) =
+    let f = short (ltb (r .low) (s .low)) (range (r .low) (s .low - 1)) in
+    let g = short (ltb (s .high) (r .high)) (range (s .high + 1) (r .high)) in
+    let h = pieces-few d a in
+    rw (length-append, length-append, length-map (pieces d a) (_∷_ (shared r s))) (omega arith)
   where
     short : (t : Bool) (q : Range) → length (map (before d) (cond t (q ∷ []) [])) ≤ 1
     short true q = omega arith
     short false q = omega arith
 
-    go : (m : Bool) → length (pieces d a) ≤ 2 * length d
-        → length (cond m (map (before d) (lowPart r s) ++ (map (before d) (highPart r s) ++ map (_∷_ (shared r s)) (pieces d a))) ((r ∷ d) ∷ [])) ≤ 2 * suc (length d)
-    go false ih = omega arith
-    go true ih =
-        let f = short (ltb (r .low) (s .low)) (range (r .low) (s .low - 1)) in
-        let g = short (ltb (s .high) (r .high)) (range (s .high + 1) (r .high)) in
-        rw (length-append, length-append, length-map (pieces d a) (_∷_ (shared r s))) (omega arith)
-
 -- a box less itself leaves nothing
-pieces-itself : (b : Region) → Whole b → pieces b b ≡ []
-unfolding pieces Whole
-pieces-itself [] w = refl
-pieces-itself (r ∷ b) w =
-    rw (
-      le-leb (r .low) (r .high) (w .0),
-      le-ltb (r .low) (r .low) (omega arith),
-      le-ltb (r .high) (r .high) (omega arith),
-      pieces-itself b (w .1),
-    )
+pieces-itself : (b : Region) → pieces b b ≡ []
+unfolding pieces
+pieces-itself [] = refl
+pieces-itself (r ∷ b) = rw (le-ltb (r .low) (r .low) (omega arith), le-ltb (r .high) (r .high) (omega arith), pieces-itself b)
+
+-- A packet that both boxes have is shared, and a box that is never empty shares packets with itself.
+pub share-of : (p : Packet) (d a : Region) → inside p d ≡ true → inside p a ≡ true → share d a ≡ true
+unfolding inside share
+share-of [] [] [] h k = refl
+share-of [] [] (s ∷ a) h k = k
+share-of [] (r ∷ d) a h k = absurd (false≢true h)
+share-of (x ∷ p) [] a h k = absurd (false≢true h)
+share-of (x ∷ p) (r ∷ d) [] h k = k
+share-of (x ∷ p) (r ∷ d) (s ∷ a) h k =
+    let u = and-true (within x r) (inside p d) h in
+    let v = and-true (within x s) (inside p a) k in
+    let f = within-fact x r (u .0) in
+    let g = within-fact x s (v .0) in
+    and-both (meets r s) (share d a) (and-both _ _ (le-leb (r .low) (s .high) (omega arith)) (le-leb (s .low) (r .high) (omega arith))) (share-of p d a (u .1) (v .1))
+
+share-itself : (b : Region) → Whole b → share b b ≡ true
+unfolding share Whole
+share-itself [] w = refl
+share-itself (r ∷ b) w = rw (le-leb (r .low) (r .high) (w .0), share-itself b (w .1))
 
 -- The same of `cut`, which is all that other files know of it.
 pub cut-hits : (p : Packet) (d a : Region) → Whole a → hits p (cut d a) ≡ one (inside p d && not (inside p a))
-unfolding cut
-cut-hits p d a w = pieces-hits p d a w
+unfolding cut hits
+cut-hits p d a w = go (share d a) refl
+  where
+    single : (u v : Bool) → (u ≡ true → v ≡ true → ⊥) → one u + 0 ≡ one (u && not v)
+    single true true h = absurd (h refl refl)
+    single true false h = refl
+    single false v h = refl
+
+    go : (t : Bool) → share d a ≡ t → hits p (cond t (pieces d a) (d ∷ [])) ≡ one (inside p d && not (inside p a))
+    go true e = pieces-hits p d a w e
+    go false e = single (inside p d) (inside p a) (λ h k. true≢false (sym (share-of p d a h k) ∙ e))
 
 pub cut-inside : (d a : Region) → Whole d → Whole a → Each (Piece d) (cut d a)
-unfolding cut
-cut-inside d a u v = pieces-inside d a u v
+unfolding cut Each
+cut-inside d a u v = go (share d a) refl
+  where
+    go : (t : Bool) → share d a ≡ t → Each (Piece d) (cond t (pieces d a) (d ∷ []))
+    go true e = pieces-inside d a u v e
+    go false e = ((u, within-self d), tt)
 
 pub cut-few : (d a : Region) → length a ≡ length d → length (cut d a) ≤ 2 * length d
-unfolding cut
-cut-few d a h = pieces-few d a h
+unfolding cut share
+cut-few [] [] h = pieces-few [] []
+cut-few [] (s ∷ a) h = absurd (omega arith)
+cut-few (r ∷ d) a h = go (share (r ∷ d) a)
+  where
+    go : (t : Bool) → length (cond t (pieces (r ∷ d) a) ((r ∷ d) ∷ [])) ≤ 2 * suc (length d)
+    go true = pieces-few (r ∷ d) a
+    go false = omega arith
 
 pub cut-itself : (b : Region) → Whole b → cut b b ≡ []
 unfolding cut
-cut-itself b w = pieces-itself b w
+cut-itself b w = rw (share-itself b w) (pieces-itself b)

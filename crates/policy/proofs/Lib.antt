@@ -4,7 +4,9 @@ pub mod Numbers
 pub mod Values
 pub mod Cuts
 pub mod Rest
+pub mod Shares
 pub mod Groups
+pub mod Fewest
 pub mod Moves
 pub mod Proper
 pub mod Edits

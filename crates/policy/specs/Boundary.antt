@@ -1,4 +1,5 @@
--- The first twelve lines of the boundary table, as one table under one statement (01, Boundary table). Assumes nothing.
+-- The first twelve lines of the boundary table, as one table under one statement (01, Boundary table; the second line as 02, W2,
+-- has it). Assumes nothing.
 use mathlib.Core.Path.{_≡_}
 use mathlib.Core.List.{List, [], _∷_, _++_}
 use mathlib.Core.Bool.{true}
@@ -41,7 +42,7 @@ pub data Line : Type 0 where
 abbrev pub boundaryTable : List Line
 boundaryTable =
     less (box 1 8 2 7) (box 4 6 4 6 ∷ []) (box 1 3 2 7 ∷ box 7 8 2 7 ∷ box 4 6 2 3 ∷ box 4 6 7 7 ∷ [])
-    ∷ less (box 0 9 0 4) (box 3 5 6 9 ∷ []) (box 0 2 0 4 ∷ box 6 9 0 4 ∷ box 3 5 0 4 ∷ [])
+    ∷ less (box 0 9 0 4) (box 3 5 6 9 ∷ []) (box 0 9 0 4 ∷ [])
     ∷ less (box 4 6 4 6) (box 1 8 2 7 ∷ []) []
     ∷ lessItself
     ∷ less (box 0 3 0 9) (box 4 9 0 9 ∷ []) (box 0 3 0 9 ∷ [])

@@ -1,6 +1,6 @@
--- Cutting one box from another, and the group of a deny rule (01, Cutting one box from another). Assumes nothing.
+-- Cutting one box from another, and the group of a deny rule (01, Cutting one box from another; 02, W2). Assumes nothing.
 use mathlib.Core.List.{List, [], _∷_, _++_, map}
-use mathlib.Core.Bool.{Bool, false, cond, _&&_, _||_}
+use mathlib.Core.Bool.{Bool, true, false, cond, _&&_, _||_}
 use Prim.Native.Nat.{_+_, _-_, min, max}
 use lib.Dec.{leb, ltb}
 use Rattle.policy.specs.Ranges.{Range, range, Region, Packet, inside}
@@ -8,6 +8,13 @@ use Rattle.policy.specs.Ranges.{Range, range, Region, Packet, inside}
 -- The ranges share a value.
 abbrev pub meets : Range → Range → Bool
 meets r s = leb (r .low) (s .high) && leb (s .low) (r .high)
+
+-- The boxes share a packet: they have as many fields, and in each a value that both have.
+unfoldable pub share : Region → Region → Bool
+share [] [] = true
+share [] (s ∷ a) = false
+share (r ∷ d) [] = false
+share (r ∷ d) (s ∷ a) = meets r s && share d a
 
 -- The part of r below s, if any; the part above s, if any; the range that both share.
 abbrev pub lowPart : Range → Range → List Range
@@ -23,21 +30,17 @@ shared r s = range (max (r .low) (s .low)) (min (r .high) (s .high))
 abbrev pub before : Region → Range → Region
 before d r = r ∷ d
 
--- The printed algorithm, field by field: where the ranges meet, the low part and the high part with d's later fields, then
--- what the later fields leave behind the shared range; where they do not, d's own range, and stop. The pieces stand in the
--- order in which they are made. (Boxes with different numbers of fields share nothing.)
+-- The printed algorithm for boxes that share a packet, field by field: the low part and the high part with d's later fields,
+-- then what the later fields leave behind the shared range. The pieces stand in the order in which they are made.
 unfoldable pub pieces : Region → Region → List Region
-pieces [] [] = []
-pieces [] (s ∷ a) = [] ∷ []
-pieces (r ∷ d) [] = (r ∷ d) ∷ []
+pieces [] a = []
+pieces (r ∷ d) [] = []
 pieces (r ∷ d) (s ∷ a) =
-    cond (meets r s)
-    (map (before d) (lowPart r s) ++ (map (before d) (highPart r s) ++ map (_∷_ (shared r s)) (pieces d a)))
-    ((r ∷ d) ∷ [])
+    map (before d) (lowPart r s) ++ (map (before d) (highPart r s) ++ map (_∷_ (shared r s)) (pieces d a))
 
--- What allow box a leaves of deny box d.
+-- What allow box a leaves of deny box d: where they share no packet, d itself, whole.
 unfoldable pub cut : Region → Region → List Region
-cut d a = pieces d a
+cut d a = cond (share d a) (pieces d a) (d ∷ [])
 
 -- Every piece, in order, replaced by what one allow leaves of it.
 unfoldable pub cutEach : List Region → Region → List Region

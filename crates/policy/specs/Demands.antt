@@ -37,7 +37,13 @@ pub record CutHolds (d a : Region) : Type 0 where
 abbrev pub CutTheorem : Type 0
 CutTheorem = (d a : Region) → Whole d → Whole a → length a ≡ length d → CutHolds d a
 
--- The same of the group of deny box d after these allows.
+-- 02, W2: no list of boxes with exactly those packets is shorter than the cut.
+abbrev pub FewestTheorem : Type 0
+FewestTheorem =
+    (d a : Region) → Whole d → Whole a → (l : List Region)
+    → ((p : Packet) → anyHas p l ≡ (inside p d && not (inside p a))) → length (cut d a) ≤ length l
+
+-- What `CutHolds` says, of the group of deny box d after these allows.
 pub record GroupHolds (d : Region) (allows : List Region) : Type 0 where
   pub parts : Each (Piece d) (group (d ∷ []) allows)
   pub apart : Apart (group (d ∷ []) allows)

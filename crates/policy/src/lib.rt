@@ -6,6 +6,7 @@ ghost use lib.ListN.{length, getD, set};
 ghost use Rattle.policy.specs.Fields.{fields, highest};
 ghost use Rattle.policy.specs.Ranges.{range, properRange, proper, fullRange, isFull};
 ghost use Rattle.policy.specs.Rules.{sound};
+ghost use Rattle.policy.specs.Cut.{share};
 ghost use Rattle.policy.specs.Refusals.{numberOf, refusalBase};
 ghost use Rattle.policy.specs.Values.{regionOf, ruleOf};
 ghost use Rattle.policy.specs.Steps.{rangeAt};
@@ -178,6 +179,27 @@ impl Box {
     {
         let high = self.high;
         self.narrow(k, x + 1, value_at(high, k))
+    }
+
+    // Whether some packet is in both boxes.
+    pub fn shares(self, a: Box) -> bool
+        ensures { λ r. ⌜ r ≡ share (regionOf self) (regionOf a) ⌝ }
+    {
+        let mut k: usize = 0;
+        while k < FIELDS {
+            let low = self.low_at(k);
+            let high = self.high_at(k);
+            let from = a.low_at(k);
+            let to = a.high_at(k);
+            if to < low {
+                return false;
+            }
+            if high < from {
+                return false;
+            }
+            k += 1;
+        }
+        true
     }
 
     // No low above its high, no value above its field's highest.

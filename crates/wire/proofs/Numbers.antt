@@ -12,7 +12,7 @@ use borrow.Author.Tests.{eqb-true, ne-eqb}
 use Rattle.lists.specs.Lists.{Each}
 use Rattle.lists.proofs.Lists.{each-take, each-drop}
 use Rattle.wire.specs.Numbers.{numberBytes, numberFrom, numberIn, Byte}
-use Rattle.wire.specs.Steps.{isWidth}
+use Rattle.wire.specs.Steps.{lowFirst, isWidth}
 
 -- Parts of bytes are bytes.
 pub bytes-take : (n : ℕ) (s : List ℕ) → Each Byte s → Each Byte (take n s)
@@ -111,3 +111,29 @@ four-bytes s at h =
 pub last-width : (w : ℕ) → isWidth w ≡ true → (w ≡ 4 → ⊥) → (w ≡ 2 → ⊥) → w ≡ 1
 unfolding isWidth
 last-width w h n m = eqb-true w 1 (rw (ne-eqb w 4 n, ne-eqb w 2 m) at h)
+
+-- A number built from its bytes has them, the lowest first.
+module _ (w q b : ℕ) (h : b < 256) where
+  low-first : lowFirst (suc w) (q * 256 + b) ≡ b ∷ lowFirst w q
+  unfolding lowFirst
+  low-first =
+      let e : (q * 256 + b) % 256 ≡ b = omega arith in
+      let f : (q * 256 + b) / 256 ≡ q = omega arith in
+      rw (e, f)
+
+pub turned-two : (x : ℕ) → lowFirst 2 (x % 256 * 256 + x / 256 % 256) ≡ numberBytes 2 x
+unfolding lowFirst numberBytes
+turned-two x =
+    let e : x % 256 % 256 ≡ x % 256 = omega arith in
+    low-first 1 (x % 256) (x / 256 % 256) (omega arith) ∙ rw e
+
+pub turned-four : (x : ℕ) → lowFirst 4 (((x % 256 * 256 + x / 256 % 256) * 256 + x / 256 / 256 % 256) * 256 + x / 256 / 256 / 256 % 256) ≡ numberBytes 4 x
+unfolding lowFirst numberBytes
+turned-four x =
+    let a : ℕ = x % 256 in
+    let b : ℕ = x / 256 % 256 in
+    let c : ℕ = x / 256 / 256 % 256 in
+    let d : ℕ = x / 256 / 256 / 256 % 256 in
+    let e : a % 256 ≡ a = omega arith in
+    low-first 3 ((a * 256 + b) * 256 + c) d (omega arith)
+    ∙ ap (_∷_ d) (low-first 2 (a * 256 + b) c (omega arith) ∙ ap (_∷_ c) (low-first 1 a b (omega arith) ∙ rw e))

@@ -3,7 +3,7 @@
 use mathlib.Core.Path.{_≡_, refl, ap, sym}
 use mathlib.Core.List.{List, [], _∷_, _++_, map, append-assoc}
 use mathlib.Core.Bool.{Bool, true, false≢true}
-use Prim.Native.Nat.{ℕ, suc, _+_, _*_, _-_, _^_, _<_, _≤_}
+use Prim.Native.Nat.{ℕ, zero, suc, _+_, _*_, _-_, _^_, _<_, _≤_}
 use native.Mathlib.Omega.{arith}
 use lib.Dec.{eqb, leb}
 use lib.ListN.{length, getD, drop, take, length-append, length-drop}
@@ -21,14 +21,34 @@ use Rattle.wire.proofs.Numbers.{numberBytes-length, number-back, number
 use Rattle.wire.proofs.Items.{Items, items-written-length, items-read-length, items-back, items-written-back, items-front, items-from, item-at}
 
 -- Ranges in any widths.
-pub rangesBytes-length : (ws : List ℕ) (b : Region) → length b ≡ length ws → length (rangesBytes ws b) ≡ sizeOf ws
+pub front-length : (ws : List ℕ) (b : Region) → length ws ≤ length b → length (rangesBytes ws b) ≡ sizeOf ws
 unfolding rangesBytes
-rangesBytes-length [] [] h = refl
-rangesBytes-length [] (r ∷ b) h = refl
-rangesBytes-length (w ∷ ws) [] h = absurd (omega arith)
-rangesBytes-length (w ∷ ws) (r ∷ b) h =
-    let i = rangesBytes-length ws b (omega arith) in
+front-length [] b h = refl
+front-length (w ∷ ws) [] h = absurd (omega arith)
+front-length (w ∷ ws) (r ∷ b) h =
+    let i = front-length ws b (omega arith) in
     rw (length-append, length-append, numberBytes-length, numberBytes-length) (omega arith)
+
+pub rangesBytes-length : (ws : List ℕ) (b : Region) → length b ≡ length ws → length (rangesBytes ws b) ≡ sizeOf ws
+rangesBytes-length ws b h = front-length ws b (omega arith)
+
+-- The bytes of the first n fields, and of those behind them.
+pub ranges-split : (n : ℕ) (ws : List ℕ) (b : Region) → rangesBytes ws b ≡ rangesBytes (take n ws) b ++ rangesBytes (drop n ws) (drop n b)
+unfolding rangesBytes
+ranges-split zero ws b = refl
+ranges-split (suc n) [] b = refl
+ranges-split (suc n) (w ∷ ws) [] = sym (none (drop n ws))
+  where
+    none : (vs : List ℕ) → rangesBytes vs [] ≡ []
+    none [] = refl
+    none (v ∷ vs) = refl
+ranges-split (suc n) (w ∷ ws) (r ∷ b) =
+    rw (append-assoc, append-assoc) (ap (λ (s : List ℕ). numberBytes w (r .low) ++ (numberBytes w (r .high) ++ s)) (ranges-split n ws b))
+
+pub size-split : (n : ℕ) (ws : List ℕ) → sizeOf (take n ws) + sizeOf (drop n ws) ≡ sizeOf ws
+size-split zero ws = omega arith
+size-split (suc n) [] = omega arith
+size-split (suc n) (w ∷ ws) = let e = size-split n ws in omega arith
 
 pub fits-length : (ws : List ℕ) (b : Region) → Fits ws b → length b ≡ length ws
 unfolding Fits

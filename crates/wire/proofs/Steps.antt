@@ -2,7 +2,7 @@
 use mathlib.Core.Path.{_≡_, refl, ap, sym, _∙_}
 use mathlib.Core.List.{List, [], _∷_, _++_, append-assoc, append-nil}
 use mathlib.Core.Bool.{true}
-use Prim.Native.Nat.{ℕ, _+_, _<_, _≤_, min}
+use Prim.Native.Nat.{ℕ, zero, suc, _+_, _<_, _≤_, min}
 use native.Mathlib.Omega.{arith}
 use native.Mathlib.Numerals.{add-one}
 use lib.ListN.{length, getD, set, drop, take, length-take, drop-of-length-le}
@@ -64,7 +64,7 @@ module _ (ws : List ℕ) (k : ℕ) (fits : k < length ws) where
   read-next s low high p l h whole e g el eh inv =
       rw (ranges-next low high k l h e g, append-assoc, el, eh) (rw (read-step s p) at inv)
 
-  pub write-next : (out low high : List ℕ) (p : ℕ) (whole : List ℕ) → length low ≡ length high → k < length low
+  write-next : (out low high : List ℕ) (p : ℕ) (whole : List ℕ) → length low ≡ length high → k < length low
       → sets out p (rangesBytes (drop k ws) (drop k (ranges low high))) ≡ whole
       → sets (sets (sets out p (numberBytes (getD ws k 0) (getD low k 0))) (p + getD ws k 0) (numberBytes (getD ws k 0) (getD high k 0))) (p + getD ws k 0 + getD ws k 0)
       (rangesBytes (drop (k + 1) ws) (drop (k + 1) (ranges low high))) ≡ whole
@@ -81,10 +81,35 @@ pub read-last : (ws s low high : List ℕ) (p k : ℕ) (whole : Region) → leng
 unfolding rangesIn
 read-last ws s low high p k whole e l h inv = rw (take-all k low l, take-all k high h, drop-of-length-le ws e, append-nil) at inv
 
-pub write-last : (ws out low high : List ℕ) (p k : ℕ) (whole : List ℕ) → length ws ≤ k
+write-last : (ws out low high : List ℕ) (p k : ℕ) (whole : List ℕ) → length ws ≤ k
     → sets out p (rangesBytes (drop k ws) (drop k (ranges low high))) ≡ whole → out ≡ whole
 unfolding rangesBytes
 write-last ws out low high p k whole e inv = rw (drop-of-length-le ws e) at inv
+
+-- The same where only the first n fields are written.
+width-taken : (ws : List ℕ) (n k : ℕ) → k < n → getD (take n ws) k 0 ≡ getD ws k 0
+width-taken ws zero k h = absurd (omega arith)
+width-taken [] (suc n) k h = refl
+width-taken (w ∷ ws) (suc n) zero h = refl
+width-taken (w ∷ ws) (suc n) (suc k) h = width-taken ws n k (omega arith)
+
+module _ (n k : ℕ) (out low high : List ℕ) (p : ℕ) (whole : List ℕ) (inv : sets out p (rangesBytes (drop k (take n widths)) (drop k (ranges low high))) ≡ whole) where
+  pub fields-next : k < n → k < fields → length low ≡ length high → k < length low
+      → sets (sets (sets out p (numberBytes (getD widths k 0) (getD low k 0))) (p + getD widths k 0) (numberBytes (getD widths k 0) (getD high k 0))) (p + getD widths k 0 + getD widths k 0)
+      (rangesBytes (drop (k + 1) (take n widths)) (drop (k + 1) (ranges low high))) ≡ whole
+  fields-next h t e g =
+      let l : k < length (take n widths) = omega (arith, length-take n widths) in
+      rw (width-taken widths n k h) at (write-next (take n widths) k l out low high p whole e g inv)
+
+  pub fields-past : n ≤ k → (q : ℕ) → sets out q (rangesBytes (drop (k + 1) (take n widths)) (drop (k + 1) (ranges low high))) ≡ whole
+  unfolding rangesBytes
+  fields-past h q =
+      let l : length (take n widths) ≤ k = omega (arith, length-take n widths) in
+      let m : length (take n widths) ≤ k + 1 = omega arith in
+      rw (drop-of-length-le (take n widths) m) (rw (drop-of-length-le (take n widths) l) at inv)
+
+  pub fields-last : fields ≤ k → out ≡ whole
+  fields-last h = write-last (take n widths) out low high p k whole (omega (arith, length-take n widths)) inv
 
 -- A record is its box and, behind it, its action.
 pub rule-read : (s : List ℕ) (at : ℕ) (b : Region) (a : ℕ) → b ≡ boxIn (drop at s) → a ≡ numberIn (take actionSize (drop (at + boxSize) s))

@@ -1,9 +1,14 @@
 -- The words in which the inner functions that write bytes say what they leave. Assumes nothing.
-use mathlib.Core.List.{List, _++_}
+use mathlib.Core.List.{List, [], _∷_, _++_}
 use mathlib.Core.Bool.{Bool, _||_}
-use Prim.Native.Nat.{ℕ, _+_, _-_}
+use Prim.Native.Nat.{ℕ, zero, suc, _+_, _-_, _/_, _%_}
 use lib.Dec.{eqb}
 use lib.ListN.{take, drop}
+
+-- The w bytes of x, the lowest first.
+unfoldable pub lowFirst : ℕ → ℕ → List ℕ
+lowFirst zero x = []
+lowFirst (suc w) x = x % 256 ∷ lowFirst w (x / 256)
 
 -- The widths that a field can have.
 unfoldable pub isWidth : ℕ → Bool

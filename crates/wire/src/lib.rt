@@ -10,11 +10,11 @@ ghost use mathlib.Core.Bool.{true};
 ghost use Prim.Native.Nat.{_+_, _≤_, _<_};
 ghost use lib.ListN.{length, take, drop};
 ghost use lib.Seq.{sets};
-ghost use Rattle.policy.specs.Fields.{boxSize, recordSize, countSize};
+ghost use Rattle.policy.specs.Fields.{widths, boxSize, recordSize, countSize};
 ghost use Rattle.policy.specs.Values.{regionOf, ruleOf};
 ghost use Rattle.wire.specs.Numbers.{numberBytes, numberIn};
-ghost use Rattle.wire.specs.Steps.{isWidth, copiedDown, copiedUp};
-ghost use Rattle.wire.specs.Records.{boxBytes, boxIn, recordBytes, ruleIn};
+ghost use Rattle.wire.specs.Steps.{lowFirst, isWidth, copiedDown, copiedUp};
+ghost use Rattle.wire.specs.Records.{rangesBytes, boxBytes, boxIn, recordBytes, ruleIn};
 ghost use Rattle.wire.specs.Buffers.{zeroed, filled};
 
 fn wide(x: u8) -> u32
@@ -44,26 +44,46 @@ fn one_at(s: &[u8], at: usize) -> u32
     wide(s[at])
 }
 
-fn put_four(out: &mut [u8], at: usize, x: u32)
-    requires { ⌜ at + 4 ≤ length (now out) ⌝ }
-    ensures { λ r. ⌜ now (out .exit) ≡ sets (now (out .entry)) at (numberBytes 4 x) ⌝ }
+// The number whose four bytes are those of x in the other order. A machine that keeps the lowest byte first stores its bytes in one
+// step, where those of x would be stored one by one.
+fn turned_four(x: u32) -> u32
+    ensures { λ r. ⌜ lowFirst 4 r ≡ numberBytes 4 x ⌝ }
 {
     let x1 = x / 256;
     let x2 = x1 / 256;
     let x3 = x2 / 256;
-    out[at] = (x3 % 256) as u8;
-    out[at + 1] = (x2 % 256) as u8;
-    out[at + 2] = (x1 % 256) as u8;
-    out[at + 3] = (x % 256) as u8;
+    ((x % 256 * 256 + x1 % 256) * 256 + x2 % 256) * 256 + x3 % 256
+}
+
+// The same for the lower two bytes.
+fn turned_two(x: u32) -> u32
+    ensures { λ r. ⌜ lowFirst 2 r ≡ numberBytes 2 x ⌝ }
+{
+    x % 256 * 256 + x / 256 % 256
+}
+
+fn put_four(out: &mut [u8], at: usize, x: u32)
+    requires { ⌜ at + 4 ≤ length (now out) ⌝ }
+    ensures { λ r. ⌜ now (out .exit) ≡ sets (now (out .entry)) at (numberBytes 4 x) ⌝ }
+{
+    let y = turned_four(x);
+    let y1 = y / 256;
+    let y2 = y1 / 256;
+    let y3 = y2 / 256;
+    out[at] = (y % 256) as u8;
+    out[at + 1] = (y1 % 256) as u8;
+    out[at + 2] = (y2 % 256) as u8;
+    out[at + 3] = (y3 % 256) as u8;
 }
 
 fn put_two(out: &mut [u8], at: usize, x: u32)
     requires { ⌜ at + 2 ≤ length (now out) ⌝ }
     ensures { λ r. ⌜ now (out .exit) ≡ sets (now (out .entry)) at (numberBytes 2 x) ⌝ }
 {
-    let x1 = x / 256;
-    out[at] = (x1 % 256) as u8;
-    out[at + 1] = (x % 256) as u8;
+    let y = turned_two(x);
+    let y1 = y / 256;
+    out[at] = (y % 256) as u8;
+    out[at + 1] = (y1 % 256) as u8;
 }
 
 fn put_one(out: &mut [u8], at: usize, x: u32)
@@ -136,10 +156,11 @@ pub fn box_at(s: &[u8], at: usize) -> Box
     Box { low, high }
 }
 
-// The bytes of a box, from a place on.
-pub fn put_box(out: &mut [u8], at: usize, b: Box)
+// The bytes of the first n fields of a box, from a place on. The walk goes through all fields, so that the compiler makes straight
+// code of it wherever it knows n.
+pub fn put_fields(out: &mut [u8], at: usize, n: usize, b: Box)
     requires { ⌜ at + boxSize ≤ length (now out) ⌝ }
-    ensures { λ r. ⌜ now (out .exit) ≡ sets (now (out .entry)) at (boxBytes (regionOf b)) ⌝ }
+    ensures { λ r. ⌜ now (out .exit) ≡ sets (now (out .entry)) at (rangesBytes (take n widths) (regionOf b)) ⌝ }
 {
     let low = b.low;
     let high = b.high;
@@ -147,11 +168,21 @@ pub fn put_box(out: &mut [u8], at: usize, b: Box)
     let mut k: usize = 0;
     while k < FIELDS {
         let w = WIDTH[k];
-        put_number(out, p, w, low[k]);
-        put_number(out, p + w, w, high[k]);
+        if k < n {
+            put_number(out, p, w, low[k]);
+            put_number(out, p + w, w, high[k]);
+        }
         p = p + w + w;
         k += 1;
     }
+}
+
+// The bytes of a box, from a place on.
+pub fn put_box(out: &mut [u8], at: usize, b: Box)
+    requires { ⌜ at + boxSize ≤ length (now out) ⌝ }
+    ensures { λ r. ⌜ now (out .exit) ≡ sets (now (out .entry)) at (boxBytes (regionOf b)) ⌝ }
+{
+    put_fields(out, at, FIELDS, b);
 }
 
 // The rule whose record begins at a place.

@@ -1,8 +1,9 @@
 -- `first_touched` meets its contract: the loop's invariant says that the pieces before place i stay. Assumes nothing.
 use borrow.Author.Needs.{needs}
-use borrow.Author.Tests.{not-false}
+use mathlib.Core.Path.{sym, _∙_}
 use Prim.Native.Nat.{_-_}
 use Rattle.policy.specs.Values.{regionOf}
+use Rattle.policy.proofs.Rest.{cut-whole}
 use Rattle.groups.specs.Steps.{Untouched}
 use Rattle.groups.proofs.Passes.{untouched-first, untouched-next}
 use Rattle.groups.proofs.first_touched.Statement.{statement}
@@ -23,8 +24,8 @@ mul-box-at c = search needs
 box-at-requires : tie.Need-box-at-requires Inv-loop μ-loop
 box-at-requires c κs = search needs
 
-stays-requires : tie.Need-stays-requires Inv-loop μ-loop
-stays-requires c κs = search needs
+shares-requires : tie.Need-shares-requires Inv-loop μ-loop
+shares-requires c κs = search needs
 
 returns : tie.Need-returns Inv-loop μ-loop
 returns c = c .before .before .before .before .loop .inv
@@ -37,7 +38,7 @@ loop-less c = search needs
 
 loop-again : tie.Need-loop-again Inv-loop μ-loop
 loop-again c =
-    let whole = c .before .stays .ensures (not-false (c .before .stays .result) (c .if1 .left)) in
+    let whole = cut-whole (regionOf (c .before .before .box-at .result)) (regionOf (c .before .before .before .before .before .before .args .a)) (sym (c .before .shares .ensures) ∙ c .if1 .left) in
     untouched-next (regionOf (c .before .before .box-at .result)) (c .before .before .before .before .loop .inv) (c .before .before .before .loop-test .taken) (c .before .before .box-at .ensures) whole
 
 returns-2 : tie.Need-returns-2 Inv-loop μ-loop
@@ -52,7 +53,7 @@ first-touched-spec =
     loop-holds
     mul-box-at
     box-at-requires
-    stays-requires
+    shares-requires
     returns
     add-i
     loop-less

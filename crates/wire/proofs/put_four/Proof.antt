@@ -1,11 +1,16 @@
--- `put_four` meets its contract: the bytes are stored one by one. Assumes nothing.
+-- `put_four` meets its contract: the bytes are stored one by one, from the number that has them in the other order. Assumes nothing.
 use borrow.Author.Needs.{needs}
+use mathlib.Core.Path.{ap}
 use lib.ListN.{length-set}
+use lib.Seq.{sets}
 use native.Mathlib.Omega.{arith}
 use native.Mathlib.Numerals.{towards-suc}
-use Rattle.wire.specs.Numbers.{numberBytes}
+use Rattle.wire.specs.Steps.{lowFirst}
 use Rattle.wire.proofs.put_four.Statement.{statement}
 use Rattle.wire.proofs.put_four.Tie as tie
+
+turned-four-requires : tie.Need-turned-four-requires
+turned-four-requires c κs = search needs
 
 cast-out : tie.Need-cast-out
 cast-out c = search needs
@@ -44,13 +49,14 @@ same-length : tie.Need-same-length
 same-length c = search needs
 
 returns : tie.Need-returns
-unfolding numberBytes
-returns c = simp towards-suc
+unfolding lowFirst
+returns c = simp towards-suc (ap (sets (c .before .before .args .out .now) (c .before .before .args .at)) (c .turned-four .ensures))
 
 pub put-four-spec : {M : Type 1} → statement M
 put-four-spec =
     tie.close
     (tie.spec
+    turned-four-requires
     cast-out
     slice-write-out
     cast-out-2
