@@ -1,5 +1,5 @@
 // Gate lists of several families and sizes: the boxes and pieces that they give, and the time of the library's move. Prints the
-// tables of docs/EVALUATION.md.
+// tables of docs/EVALUATION.md, with `-` for times that would say nothing.
 use crate::inputs::{nested, own, rule, single_values, ALLOW, DENY};
 use crate::measure::{median, timed, Random};
 use crate::planner::cut;
@@ -16,13 +16,21 @@ const SEED: u64 = 0x9E37_79B9_7F4A_7C15;
 // A way to take an allow from a piece.
 type Take = fn(&Region, &Region, &mut Vec<Region>);
 
-// The cut of the paper's prose: a piece that shares no packet with the allow stays whole.
-fn cut_if_met(d: &Region, a: &Region, out: &mut Vec<Region>) {
-    if (0..FIELDS).any(|k| d.high[k] < a.low[k] || a.high[k] < d.low[k]) {
-        out.push(*d);
-    } else {
-        cut(d, a, out);
+// The cut as the paper prints it. It ends at the first field that shares nothing: the fields before it have split the piece, as an
+// allow does that has all of the later fields, and what is left there of the piece stays.
+fn cut_as_printed(d: &Region, a: &Region, out: &mut Vec<Region>) {
+    let mut wide = *a;
+    let mut rest = *d;
+    for k in 0..FIELDS {
+        if d.high[k] < a.low[k] || a.high[k] < d.low[k] {
+            wide.low[k..].copy_from_slice(&d.low[k..]);
+            wide.high[k..].copy_from_slice(&d.high[k..]);
+            cut(d, &wide, out);
+            return out.push(rest);
+        }
+        (rest.low[k], rest.high[k]) = (d.low[k].max(a.low[k]), d.high[k].min(a.high[k]));
     }
+    cut(d, a, out);
 }
 
 // What a gate's groups come to: all boxes, the most pieces that one group has after an allow, and the pieces of every group after
@@ -53,54 +61,76 @@ fn pieces(gate: &[Rule], take: Take) -> Pieces {
     seen
 }
 
-// The library's move of a gate: the number that it refuses it with, if it does, and the median of its nanoseconds.
-fn moved(desk: &mut Desk, gate: &[Rule], seen: &Pieces) -> (Option<u32>, f64) {
-    let order = order_of(gate, &own(OWN_RULES));
-    let mut answer = 0;
-    let times = (0..CALLS).map(|_| timed(1, || answer = desk.move_order(Planner::Library, black_box(&order)))).collect();
-    let refused = answer.checked_sub(REFUSED);
-    match refused {
-        None => assert_eq!(boxes(order.len(), &desk.sheet), seen.boxes),
-        Some(6) => assert!(seen.most > MOST),
-        _ => assert!(seen.most <= MOST && seen.boxes + OWN_RULES > MOST),
+// The number that a move of a gate with these pieces gives, if it refuses it.
+fn refused(seen: &Pieces) -> Option<u32> {
+    match (seen.most > MOST, seen.boxes + OWN_RULES > MOST) {
+        (true, _) => Some(6),
+        (false, true) => Some(7),
+        (false, false) => None,
     }
-    (refused, median(times))
+}
+
+// The library's move, timed or only done once.
+struct Mover {
+    desk: Desk,
+    timed: bool,
+}
+
+impl Mover {
+    // The number that a gate is refused with, if it is, and the median of the move's nanoseconds.
+    fn move_gate(&mut self, gate: &[Rule], seen: &Pieces) -> (Option<u32>, f64) {
+        let order = order_of(gate, &own(OWN_RULES));
+        let mut answer = 0;
+        let calls = if self.timed { CALLS } else { 1 };
+        let times =
+            (0..calls).map(|_| timed(1, || answer = self.desk.move_order(Planner::Library, black_box(&order)))).collect();
+        let number = answer.checked_sub(REFUSED);
+        assert_eq!(number, refused(seen));
+        if number.is_none() {
+            assert_eq!(boxes(order.len(), &self.desk.sheet), seen.boxes);
+        }
+        (number, median(times))
+    }
+
+    fn microseconds(&self, times: &[f64]) -> String {
+        let shown = |t: &f64| if self.timed { format!("{:.1}", t / 1000.0) } else { "-".to_string() };
+        times.iter().map(shown).collect::<Vec<_>>().join(" / ")
+    }
 }
 
 // One line for each size of a family of lists.
-fn family(desk: &mut Desk, name: &str, gates: impl Iterator<Item = Vec<Rule>>) {
+fn family(mover: &mut Mover, name: &str, gates: impl Iterator<Item = Vec<Rule>>) {
     for gate in gates {
         let seen = pieces(&gate, cut);
-        let (refused, time) = moved(desk, &gate, &seen);
-        let boxes = refused.map_or(seen.boxes.to_string(), |n| format!("refused {n}"));
-        println!("| {name} | {} | {boxes} | {} | {} | {:.1} |", gate.len(), seen.most, seen.made, time / 1000.0);
+        let (number, time) = mover.move_gate(&gate, &seen);
+        let boxes = number.map_or(seen.boxes.to_string(), |n| format!("refused {n}"));
+        println!("| {name} | {} | {boxes} | {} | {} | {} |", gate.len(), seen.most, seen.made, mover.microseconds(&[time]));
     }
 }
 
 // The most rules nested in so many fields whose move is accepted.
 fn largest(fields: usize) -> usize {
-    let fits = |seen: Pieces| seen.most <= MOST && seen.boxes + OWN_RULES <= MOST;
-    (2..=GATE).rev().find(|n| fits(pieces(&nested(fields, *n), cut))).unwrap()
+    (2..=GATE).rev().find(|n| refused(&pieces(&nested(fields, *n), cut)).is_none()).unwrap()
 }
 
-fn families(desk: &mut Desk) {
+fn families(mover: &mut Mover) {
     println!("| Family | gate rules | boxes | most pieces at once | pieces in all | move, µs |");
     println!("|---|---|---|---|---|---|");
     for (name, fields) in [("nested, one field", 1), ("nested, two fields", 2), ("nested, three fields", 3)] {
         let mut sizes = vec![10, 20, 40, 64, largest(fields)];
         sizes.sort();
         sizes.dedup();
-        family(desk, name, sizes.iter().map(|n| nested(fields, *n)));
+        family(mover, name, sizes.iter().map(|n| nested(fields, *n)));
     }
     let and_deny_all = |mut gate: Vec<Rule>, denies: usize| {
         gate.extend((0..denies).map(|_| rule(&[], DENY)));
         gate
     };
-    family(desk, "single values, one field", [9, 19, 49, 63].iter().map(|m| and_deny_all(single_values(1, *m), 1)));
-    family(desk, "single values, two fields", [5, 10, 20, 30, 31].iter().map(|m| and_deny_all(single_values(2, *m), 1)));
-    family(desk, "single values, three fields", [3, 6, 9, 10].iter().map(|m| and_deny_all(single_values(3, *m), 1)));
+    family(mover, "single values, one field", [9, 19, 49, 63].iter().map(|m| and_deny_all(single_values(1, *m), 1)));
+    family(mover, "single values, two fields", [5, 10, 20, 30, 31].iter().map(|m| and_deny_all(single_values(2, *m), 1)));
+    family(mover, "single values, three fields", [3, 6, 9, 10].iter().map(|m| and_deny_all(single_values(3, *m), 1)));
     family(
-        desk,
+        mover,
         "single values, one field, half denies",
         [5, 10, 25, 31, 32].iter().map(|m| and_deny_all(single_values(1, *m), *m as usize)),
     );
@@ -112,31 +142,35 @@ fn spread(mut numbers: Vec<f64>) -> (f64, f64) {
     (numbers[numbers.len() / 2], numbers[numbers.len() - 1])
 }
 
-// One line for so many random plants of one size: how they spread, and how many of them are refused.
-fn plants(desk: &mut Desk, rules: usize, last: u8) {
+// One line for so many random plants of one size: how they spread, by the cut and by the cut as printed, and how many are refused.
+fn plants(mover: &mut Mover, rules: usize, last: u8) {
     let mut random = Random(SEED);
     let gates: Vec<Vec<Rule>> = (0..PLANTS).map(|_| plant(&mut random, rules, last)).collect();
     let seen: Vec<Pieces> = gates.iter().map(|g| pieces(g, cut)).collect();
-    let moves: Vec<(Option<u32>, f64)> = gates.iter().zip(&seen).map(|(g, s)| moved(desk, g, s)).collect();
-    let refused = |n| moves.iter().filter(|m| m.0 == Some(n)).count();
+    let printed: Vec<Pieces> = gates.iter().map(|g| pieces(g, cut_as_printed)).collect();
     print!("| {} all | {rules} |", if last == ALLOW { "allow" } else { "deny" });
     for numbers in [|p: &Pieces| p.boxes, |p: &Pieces| p.most, |p: &Pieces| p.made] {
-        let (middle, worst) = spread(seen.iter().map(|p| numbers(p) as f64).collect());
-        print!(" {middle} / {worst} |");
+        for cuts in [&seen, &printed] {
+            let (middle, worst) = spread(cuts.iter().map(|p| numbers(p) as f64).collect());
+            print!(" {middle} / {worst} |");
+        }
     }
-    let (middle, worst) = spread(moves.iter().map(|m| m.1 / 1000.0).collect());
-    print!(" {middle:.1} / {worst:.1} | {} | {} |", refused(6), refused(7));
-    let (middle, worst) = spread(gates.iter().map(|g| pieces(g, cut_if_met).boxes as f64).collect());
-    println!(" {middle} / {worst} |");
+    for cuts in [&seen, &printed] {
+        let given = |n| cuts.iter().filter(|p| refused(p) == Some(n)).count();
+        print!(" {}, {} |", given(6), given(7));
+    }
+    let (middle, worst) = spread(gates.iter().zip(&seen).map(|(g, s)| mover.move_gate(g, s).1).collect());
+    println!(" {} |", mover.microseconds(&[middle, worst]));
 }
 
-pub fn run() {
-    let mut desk = Desk::new();
-    families(&mut desk);
+pub fn run(timed: bool) {
+    let mut mover = Mover { desk: Desk::new(), timed };
+    families(&mut mover);
     println!();
-    println!("| Last rule | gate rules | boxes | most pieces at once | pieces in all | move, µs | refused 6 | refused 7 | boxes, cut if met |");
-    println!("|---|---|---|---|---|---|---|---|---|");
+    print!("| Last rule | gate rules | boxes | as printed | most pieces at once | as printed | pieces in all | as printed ");
+    println!("| refused 6, 7 | as printed | move, µs |");
+    println!("|---|---|---|---|---|---|---|---|---|---|---|");
     for last in [ALLOW, DENY] {
-        [10, 20, 50, 64].iter().for_each(|n| plants(&mut desk, *n, last));
+        [10, 20, 50, 64].iter().for_each(|n| plants(&mut mover, *n, last));
     }
 }

@@ -17,8 +17,13 @@ mod table;
 mod versions;
 
 fn main() {
-    if std::env::args().nth(1).as_deref() == Some("evaluation") {
-        return evaluation::run();
+    let words: Vec<String> = std::env::args().skip(1).collect();
+    let number = |i: usize| words[i].parse().unwrap();
+    match words.first().map(String::as_str) {
+        Some("evaluation") => return evaluation::run(words.len() == 1),
+        Some("names") => return moving::names(),
+        Some("moves") => return moving::repeat(number(1), number(2), number(3)),
+        _ => {}
     }
     let cpu = std::fs::read_to_string("/proc/cpuinfo").unwrap_or_default();
     let model = cpu.lines().find(|l| l.starts_with("model name")).and_then(|l| l.split(':').nth(1)).unwrap_or(" unknown");

@@ -5,6 +5,19 @@ use crate::sheets::{boxes, order_of, REFUSED};
 use crate::versions::{Desk, PLANNERS};
 use std::hint::black_box;
 
+// The names of the lists that are moved, a line each.
+pub fn names() {
+    inputs::all().iter().for_each(|input| println!("{}", input.name));
+}
+
+// So many moves of a list by one planner and nothing else, for a count of instructions.
+pub fn repeat(planner: usize, input: usize, times: usize) {
+    let input = &inputs::all()[input];
+    let order = order_of(&input.gate, &input.own);
+    let mut desk = Desk::new();
+    (0..times).for_each(|_| assert!(desk.move_order(PLANNERS[planner].1, black_box(&order)) < REFUSED));
+}
+
 pub fn run() {
     head("move", &["rules", "own", "boxes", "bytes"], &PLANNERS);
     for input in inputs::all() {

@@ -120,14 +120,20 @@ static uint32_t read_pair(const uint8_t *s, size_t length) {
     return at < length ? 3 : 0;
 }
 
-/* The pieces of d without a; how many. */
+static int share(const struct region *d, const struct region *a) {
+    for (int k = 0; k < FIELDS; k++)
+        if (d->high[k] < a->low[k] || a->high[k] < d->low[k]) return 0;
+    return 1;
+}
+
+/* The pieces of d without a; how many. A region that shares no packet with a stays whole. */
 static size_t cut(struct region d, const struct region *a, struct region *out) {
+    if (!share(&d, a)) {
+        out[0] = d;
+        return 1;
+    }
     size_t n = 0;
     for (int k = 0; k < FIELDS; k++) {
-        if (d.high[k] < a->low[k] || a->high[k] < d.low[k]) {
-            out[n++] = d;
-            return n;
-        }
         if (d.low[k] < a->low[k]) {
             out[n] = d;
             out[n++].high[k] = a->low[k] - 1;

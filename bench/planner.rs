@@ -3,13 +3,20 @@ use crate::reading::{pair, region_at, rule_at, section, sound, Pair};
 use crate::sheets::{two, Region, Rule, BOX, FIELDS, FULL, GATE, MOST, OWN, RECORD, REFUSED, SHEET, WIDTH};
 use crate::versions::Edit;
 
+fn share(d: &Region, a: &Region) -> bool {
+    (0..FIELDS).all(|k| a.low[k] <= d.high[k] && d.low[k] <= a.high[k])
+}
+
+// The pieces of d without a. A region that shares no packet with a stays whole. The evaluation calls it too, so the compiler would not
+// put it into its own caller unasked.
+#[inline(always)]
 pub fn cut(d: &Region, a: &Region, out: &mut Vec<Region>) {
+    if !share(d, a) {
+        out.push(*d);
+        return;
+    }
     let mut rest = *d;
     for k in 0..FIELDS {
-        if rest.high[k] < a.low[k] || a.high[k] < rest.low[k] {
-            out.push(rest);
-            return;
-        }
         if rest.low[k] < a.low[k] {
             let mut below = rest;
             below.high[k] = a.low[k] - 1;

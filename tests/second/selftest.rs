@@ -371,6 +371,42 @@ fn origins_hold(random: &mut Random, packets: &[Packet]) -> Option<bool> {
     }))
 }
 
+/// Every box of sources and destinations below 4, with its sixteen packets as bits.
+fn small_boxes() -> Vec<(PacketBox, u16)> {
+    let ranges = (0..4).flat_map(|low| (low..4).map(move |high| (low, high)));
+    let bits = |(low, high): (u64, u64)| (low..=high).fold(0u16, |bits, value| bits | 1 << value);
+    let boxes = ranges.clone().flat_map(|from| ranges.clone().map(move |to| (from, to)));
+    let packets = move |(from, to)| {
+        (0..4)
+            .filter(|row| bits(from) >> row & 1 == 1)
+            .fold(0, |all, row| all | bits(to) << (4 * row))
+    };
+    boxes.map(|(from, to)| (area(from, to), packets((from, to)))).collect()
+}
+
+/// Whether so many of the boxes, or fewer, have all of these packets. Some box has the first.
+fn covered_by(count: usize, packets: u16, boxes: &[u16]) -> bool {
+    let first = packets & packets.wrapping_neg();
+    let with_first = || boxes.iter().filter(|&&area| area & first != 0);
+    packets == 0
+        || count > 0 && with_first().any(|area| covered_by(count - 1, packets & !area, boxes))
+}
+
+/// No list of boxes with exactly what is left of one small box without another is shorter than the
+/// cut; the cut of before W2 is longer somewhere.
+fn fewest() -> (bool, bool) {
+    let all = small_boxes();
+    let (mut held, mut held_before) = (true, true);
+    for ((deny, own), (allow, taken)) in all.iter().flat_map(|d| all.iter().map(move |a| (d, a))) {
+        let left = own & !taken;
+        let within: Vec<u16> = all.iter().map(|b| b.1).filter(|area| area & !left == 0).collect();
+        let shorter = |pieces: usize| pieces > 0 && covered_by(pieces - 1, left, &within);
+        held &= !shorter(deny.less(allow).len());
+        held_before &= !shorter(before::less(deny, allow).len());
+    }
+    (held, held_before)
+}
+
 fn facts() -> Vec<(&'static str, bool)> {
     let (mut random, packets) = (Random::new(1), packets());
     let cutting = (0..300).all(|_| cutting_holds(&mut random, &packets));
@@ -382,6 +418,7 @@ fn facts() -> Vec<(&'static str, bool)> {
     vec![
         ("cutting, packet by packet", cutting),
         ("cutting boxes that touch", touching),
+        ("no fewer boxes than a cut", fewest() == (true, false)),
         ("moving, packet by packet", moving),
         ("origins, packet by packet", origins),
     ]

@@ -1,19 +1,15 @@
 -- Whether a packet is in a box, told field by field and in any order. Assumes nothing.
 use mathlib.Core.Path.{_≡_, refl}
 use mathlib.Core.List.{[], _∷_}
-use mathlib.Core.Bool.{Bool, true, false, _&&_}
+use mathlib.Core.Bool.{true, false, _&&_}
 use Prim.Native.Nat.{_%_, _^_, _+_, _-_, ℕ, zero, suc, _<_, _≤_, zero-le, suc-le-suc}
 use native.Mathlib.Omega.{arith}
 use lib.Dec.{leb}
 use lib.ListN.{length, getD}
 use borrow.Author.Tests.{le-leb, leb-true}
-use Rattle.lists.proofs.Tests.{and-true, and-both, bool-eq}
+use Rattle.lists.proofs.Tests.{and-true, and-both, and-false, bool-eq}
 use Rattle.policy.specs.Ranges.{Range, Region, Packet, within, inside, Whole}
 use Rattle.policy.specs.Steps.{rangeAt}
-
-and-false : (b : Bool) → (b && false) ≡ false
-and-false true = refl
-and-false false = refl
 
 -- One compare for both ends of a range: w is x less the low, wrapped round below 0.
 pub wrapped-within : (x w : ℕ) (r : Range) → r .low ≤ r .high → r .high < 2 ^ 32 → w < 2 ^ 32 → (w + r .low) % 2 ^ 32 ≡ x → leb w (r .high - r .low) ≡ within x r

@@ -15,12 +15,12 @@ use Rattle.policy.specs.Steps.{rangeAt, partBelow, partAbove}
 use Rattle.policy.specs.Cut.{share, shared, cut}
 use Rattle.policy.proofs.Rest.{rest, rest-all, rest-field, rest-done}
 use Rattle.wire.specs.Records.{boxBytes}
-use Rattle.groups.specs.Steps.{places, most, Stored, Behind, CutAt, FieldCut}
+use Rattle.groups.specs.Steps.{places, most, Stored, LaterStand, CutAt, FieldCut}
 use Rattle.groups.specs.declared.Ends.{Ends}
 use Rattle.groups.specs.declared.Underway.{Underway}
 use Rattle.groups.proofs.Stores.{length-store, take-store, stored-then, stored-none}
 use Rattle.groups.proofs.Pieces.{bytes-alike}
-use Rattle.groups.proofs.Parts.{behind-own, behind-kept}
+use Rattle.groups.proofs.Parts.{later-own, later-kept}
 
 -- The parts of a field, as lists of one box or none.
 module _ (b : Region) (k x : ℕ) where
@@ -52,15 +52,15 @@ one-or-none false b = omega arith
 pub below-few : {half : ℕ} {work work′ : List ℕ} {m r : ℕ} (b : Region) (k x : ℕ) → Stored half work m (partBelow b k x) work′ r → r ≤ m + 1
 below-few b k x s = omega (arith, s .count, one-or-none (ltb (rangeAt b k .low) x) (set b k (range (rangeAt b k .low) (x - 1))))
 
-pub cut-at-kept : {half : ℕ} {work work′ : List ℕ} {at : ℕ} {cut : Underway} {k : ℕ} {ends : Ends} {l : List Region} {r : ℕ} → CutAt half work at cut k ends
-    → Stored half work (cut .stored) l work′ r → r ≤ cut .stored + 1 → cut .stored + 1 < most → CutAt half work′ at (record { rest = cut .rest; stored = r }) k ends
-cut-at-kept {half} {work} {work′} {at} {cut} {k} {ends} {l} {r} g s h q = record {
+pub cut-at-kept : {half : ℕ} {work work′ : List ℕ} {at : ℕ} {done : Underway} {k : ℕ} {ends : Ends} {l : List Region} {r : ℕ} → CutAt half work at done k ends
+    → Stored half work (done .stored) l work′ r → r ≤ done .stored + 1 → done .stored + 1 < most → CutAt half work′ at (record { rest = done .rest; stored = r }) k ends
+cut-at-kept {half} {work} {work′} {at} {done} {k} {ends} {l} {r} g s h q = record {
   room = rw (s .bytes, length-store) (g .room);
   few = omega arith;
   before = g .before;
   inside = g .inside;
   own = g .own;
-  behind = behind-kept k (regionOf (cut .rest)) at half work work′ (ap (take half) (s .bytes) ∙ take-store half half work (cut .stored) l (omega arith)) (g .before) (g .behind);
+  later = later-kept k (regionOf (done .rest)) at half work work′ (ap (take half) (s .bytes) ∙ take-store half half work (done .stored) l (omega arith)) (g .before) (g .later);
 }
 
 -- At field k: the first k fields are done, c is d with the shared ranges there, m boxes stand, and whatever is left of the fields
@@ -102,8 +102,8 @@ module _ {half : ℕ} {work₀ : List ℕ} {n : ℕ} {d a : Region} {work : List
     later-next = let w : (b : Region) → drop (k + 1) b ≡ drop 1 (drop k b) = λ b. sym (drop-drop 1 k b) in w c ∙ (ap (drop 1) (g .later) ∙ sym (w d))
 
     -- The fields behind it stand where d stands.
-    cutting-behind : (at : ℕ) → at + boxSize ≤ half → take boxSize (drop at work₀) ≡ boxBytes d → Behind k c at work
-    cutting-behind at h e = behind-own k c t (g .full) work at d (g .own) (bytes-alike at half work₀ work (g .alike) h ∙ e) later-next
+    cutting-later : (at : ℕ) → at + boxSize ≤ half → take boxSize (drop at work₀) ≡ boxBytes d → LaterStand k c at work
+    cutting-later at h e = later-own k c work at d (g .own) (bytes-alike at half work₀ work (g .alike) h ∙ e) later-next
 
     -- The low part, the high part, and on with the shared range.
     cutting-next : {last : List ℕ} {r : ℕ} {next : Region} → half ≤ length work₀ → Stored half work m (partBelow c k (rangeAt a k .low) ++ partAbove c k (rangeAt a k .high)) last r
@@ -142,9 +142,9 @@ module _ {half : ℕ} {work₀ : List ℕ} {n : ℕ} {d a : Region} {work : List
   cutting-last h = g .onward work m (rw (rest-done k c a (omega (arith, g .full))) (stored-none half work m))
 
 -- The same at the ends that the code has read.
-module _ {half : ℕ} {work₀ : List ℕ} {n : ℕ} {d a : Region} {work : List ℕ} {cut : Underway} {k : ℕ} (g : Cutting half work₀ n d a work (cut .stored) (regionOf (cut .rest)) k) (t : k < fields)
+module _ {half : ℕ} {work₀ : List ℕ} {n : ℕ} {d a : Region} {work : List ℕ} {done : Underway} {k : ℕ} (g : Cutting half work₀ n d a work (done .stored) (regionOf (done .rest)) k) (t : k < fields)
     {ends : Ends} (el : ends .low ≡ rangeAt d k .low) (eh : ends .high ≡ rangeAt d k .high) (ef : ends .from ≡ rangeAt a k .low) (et : ends .to ≡ rangeAt a k .high) where
-  pub cutting-at : (at : ℕ) → half + boxSize * places ≤ length work₀ → n + 2 * fields ≤ most → at + boxSize ≤ half → take boxSize (drop at work₀) ≡ boxBytes d → CutAt half work at cut k ends × (cut .stored + 1 < most)
+  pub cutting-at : (at : ℕ) → half + boxSize * places ≤ length work₀ → n + 2 * fields ≤ most → at + boxSize ≤ half → take boxSize (drop at work₀) ≡ boxBytes d → CutAt half work at done k ends × (done .stored + 1 < most)
   cutting-at at room few before written = (
     record {
       room = omega (arith, g .wide);
@@ -152,10 +152,10 @@ module _ {half : ℕ} {work₀ : List ℕ} {n : ℕ} {d a : Region} {work : List
       before = before;
       inside = t;
       own = (λ i. range (el i) (eh i)) ∙ sym (own-range g t);
-      behind = cutting-behind g t at before written;
+      later = cutting-later g t at before written;
     },
     omega (arith, g .few),
   )
 
-  pub cutting-cut : (last : List ℕ) (r : Underway) → half ≤ length work₀ → FieldCut half work cut k ends last r → Cutting half work₀ n d a last (r .stored) (regionOf (r .rest)) (k + 1)
+  pub cutting-cut : (last : List ℕ) (r : Underway) → half ≤ length work₀ → FieldCut half work done k ends last r → Cutting half work₀ n d a last (r .stored) (regionOf (r .rest)) (k + 1)
   cutting-cut last r room s = cutting-next g t room (rw (ef, et) at (s .parts)) (rw (ef, et) at (s .narrowed))

@@ -1,7 +1,7 @@
 -- A part of a box, stored as a copy of the box with its first fields over it. Assumes nothing.
 use mathlib.Core.Path.{_≡_, ap, sym, _∙_}
 use mathlib.Core.List.{List, _++_, append-assoc}
-use Prim.Native.Nat.{ℕ, _+_, _<_, _≤_}
+use Prim.Native.Nat.{ℕ, _+_, _≤_}
 use native.Mathlib.Omega.{arith}
 use lib.ListN.{length, take, drop, set, length-take, length-drop, length-append}
 use lib.Seq.{sets, length-sets, length-take-le, drop-drop, drop-at, drop-append-le, drop-set-lt}
@@ -10,7 +10,7 @@ use Rattle.policy.specs.Fields.{fields, widths, sizeOf, boxSize}
 use Rattle.policy.specs.Ranges.{Range, Region}
 use Rattle.wire.specs.Records.{rangesBytes, boxBytes}
 use Rattle.wire.proofs.Records.{front-length, ranges-split, size-split}
-use Rattle.groups.specs.Steps.{Behind}
+use Rattle.groups.specs.Steps.{LaterStand}
 use Rattle.groups.proofs.Pieces.{bytes-alike}
 
 -- What is stored over the front of what was stored there before.
@@ -28,32 +28,32 @@ sets-over l u v i h g =
     ∙ (rw (take-sets i l i u (omega arith), back, ← append-assoc v (drop (length v) u) t)
     (sym (sets-parts l i w (omega arith) ∙ ap (λ (n : ℕ). take i l ++ (w ++ drop (i + n) l)) lw)))
 
-module _ (k : ℕ) (b : Region) (h : k < fields) (full : length b ≡ fields) where
-  front-size : length (rangesBytes (take (k + 1) widths) b) ≡ sizeOf (take (k + 1) widths)
-  front-size = front-length (take (k + 1) widths) b (omega (arith, length-take (k + 1) widths))
+front-size : (n : ℕ) (b : Region) → length b ≡ fields → length (rangesBytes (take n widths) b) ≡ sizeOf (take n widths)
+front-size n b full = front-length (take n widths) b (omega (arith, length-take n widths))
 
-  pub part-stored : (work copied last : List ℕ) (at to : ℕ) → at + boxSize ≤ length work → to + boxSize ≤ length work → Behind k b at work
+module _ (k : ℕ) (b : Region) where
+  pub part-stored : length b ≡ fields → (work copied last : List ℕ) (at to : ℕ) → at + boxSize ≤ length work → to + boxSize ≤ length work → LaterStand k b at work
       → copied ≡ sets work to (take boxSize (drop at work)) → last ≡ sets copied to (rangesBytes (take (k + 1) widths) b) → last ≡ sets work to (boxBytes b)
-  part-stored work copied last at to g r behind e f =
+  part-stored full work copied last at to g r later e f =
       let u : List ℕ = take boxSize (drop at work) in
       let v : List ℕ = rangesBytes (take (k + 1) widths) b in
       let lu : length u ≡ boxSize = length-take-le boxSize (drop at work) (omega (arith, length-drop at work)) in
+      let lv = front-size (k + 1) b full in
       let z = size-split (k + 1) widths in
-      let tail : drop (length v) u ≡ rangesBytes (drop (k + 1) widths) (drop (k + 1) b) = rw front-size behind in
+      let tail : drop (length v) u ≡ rangesBytes (drop (k + 1) widths) (drop (k + 1) b) = rw lv later in
       let whole : v ++ drop (length v) u ≡ boxBytes b = ap (λ (s : List ℕ). v ++ s) tail ∙ sym (ranges-split (k + 1) widths b) in
-      f ∙ (ap (λ (s : List ℕ). sets s to v) e ∙ (sets-over work u v to (omega arith) (omega (arith, front-size)) ∙ ap (sets work to) whole))
+      f ∙ (ap (λ (s : List ℕ). sets s to v) e ∙ (sets-over work u v to (omega arith) (omega arith) ∙ ap (sets work to) whole))
 
-  -- A box that stands at a place has its own fields behind k there, and so has one with the same fields from k on.
-  pub behind-own : (work : List ℕ) (at : ℕ) (d : Region) → length d ≡ fields → take boxSize (drop at work) ≡ boxBytes d → drop (k + 1) b ≡ drop (k + 1) d → Behind k b at work
-  behind-own work at d ld e later =
+  -- A box that stands at a place has its own later fields there, and so has one with the same later fields.
+  pub later-own : (work : List ℕ) (at : ℕ) (d : Region) → length d ≡ fields → take boxSize (drop at work) ≡ boxBytes d → drop (k + 1) b ≡ drop (k + 1) d → LaterStand k b at work
+  later-own work at d ld e later =
       rw (e, ranges-split (k + 1) widths d, later)
-      (drop-at (rangesBytes (take (k + 1) widths) d) (rangesBytes (drop (k + 1) widths) (drop (k + 1) d)) (sizeOf (take (k + 1) widths)) (front-length (take (k + 1) widths) d (omega (arith, length-take (k + 1) widths))))
+      (drop-at (rangesBytes (take (k + 1) widths) d) (rangesBytes (drop (k + 1) widths) (drop (k + 1) d)) (sizeOf (take (k + 1) widths)) (front-size (k + 1) d ld))
 
-module _ (k : ℕ) (b : Region) (at : ℕ) where
-  -- A part has the fields behind k that the box has.
-  pub behind-part : (work : List ℕ) (part : Region) (r : Range) → part ≡ set b k r → Behind k b at work → Behind k part at work
-  behind-part work part r e behind = rw (e, drop-set-lt (k + 1) b k r (omega arith)) behind
+  -- A part has the later fields of the box.
+  pub later-part : (at : ℕ) (work : List ℕ) (part : Region) (r : Range) → part ≡ set b k r → LaterStand k b at work → LaterStand k part at work
+  later-part at work part r e later = rw (e, drop-set-lt (k + 1) b k r (omega arith)) later
 
   -- The bytes stand there still.
-  pub behind-kept : (half : ℕ) (work work′ : List ℕ) → take half work′ ≡ take half work → at + boxSize ≤ half → Behind k b at work → Behind k b at work′
-  behind-kept half work work′ e h behind = rw (bytes-alike at half work work′ e h) behind
+  pub later-kept : (at half : ℕ) (work work′ : List ℕ) → take half work′ ≡ take half work → at + boxSize ≤ half → LaterStand k b at work → LaterStand k b at work′
+  later-kept at half work work′ e h later = rw (bytes-alike at half work work′ e h) later

@@ -63,24 +63,24 @@ pub record Stored (half : ℕ) (work : List ℕ) (m : ℕ) (bs : List Region) (w
   pub count : r ≡ m + length bs
   pub bytes : work′ ≡ store half work m bs
 
--- The bytes of b's fields behind field k stand where the box that begins at a place has them.
-abbrev pub Behind : ℕ → Region → ℕ → List ℕ → Type 0
-Behind k b at work =
+-- The bytes of b's fields after field k stand where the box that begins at a place has them.
+abbrev pub LaterStand : ℕ → Region → ℕ → List ℕ → Type 0
+LaterStand k b at work =
     drop (sizeOf (take (k + 1) widths)) (take boxSize (drop at work)) ≡ rangesBytes (drop (k + 1) widths) (drop (k + 1) b)
 
--- A cut that has come to field k, of the box that stands at a place before the half: the ends are the rest's there.
-pub record CutAt (half : ℕ) (work : List ℕ) (at : ℕ) (cut : Underway) (k : ℕ) (ends : Ends) : Type 0 where
+-- A cut that has come to field k, of the box that stands at a place before the half: low and high are the rest's there.
+pub record CutAt (half : ℕ) (work : List ℕ) (at : ℕ) (done : Underway) (k : ℕ) (ends : Ends) : Type 0 where
   pub room : half + boxSize * places ≤ length work
-  pub few : cut .stored < most
+  pub few : done .stored < most
   pub before : at + boxSize ≤ half
   pub inside : k < fields
-  pub own : range (ends .low) (ends .high) ≡ rangeAt (regionOf (cut .rest)) k
-  pub behind : Behind k (regionOf (cut .rest)) at work
+  pub own : range (ends .low) (ends .high) ≡ rangeAt (regionOf (done .rest)) k
+  pub later : LaterStand k (regionOf (done .rest)) at work
 
 -- What the cut of one field leaves: its two parts stored, and the rest with the shared range there.
-pub record FieldCut (half : ℕ) (work : List ℕ) (cut : Underway) (k : ℕ) (ends : Ends) (work′ : List ℕ) (r : Underway) : Type 0 where
-  pub parts : Stored half work (cut .stored) (partBelow (regionOf (cut .rest)) k (ends .from) ++ partAbove (regionOf (cut .rest)) k (ends .to)) work′ (r .stored)
-  pub narrowed : regionOf (r .rest) ≡ set (regionOf (cut .rest)) k (shared (rangeAt (regionOf (cut .rest)) k) (range (ends .from) (ends .to)))
+pub record FieldCut (half : ℕ) (work : List ℕ) (done : Underway) (k : ℕ) (ends : Ends) (work′ : List ℕ) (r : Underway) : Type 0 where
+  pub parts : Stored half work (done .stored) (partBelow (regionOf (done .rest)) k (ends .from) ++ partAbove (regionOf (done .rest)) k (ends .to)) work′ (r .stored)
+  pub narrowed : regionOf (r .rest) ≡ set (regionOf (done .rest)) k (shared (rangeAt (regionOf (done .rest)) k) (range (ends .from) (ends .to)))
 
 -- n pieces stand at the front: each is a box that number 4 lets pass, and its bytes are those of the box.
 pub record Stands (n : ℕ) (work : List ℕ) : Type 0 where

@@ -18,7 +18,7 @@ ghost use Rattle.policy.specs.Values.{regionOf};
 ghost use Rattle.policy.specs.Steps.{partBelow, partAbove};
 ghost use Rattle.policy.specs.Cut.{share, cut, cutEach};
 ghost use Rattle.wire.specs.Records.{boxBytes, boxIn, boxesIn, rulesIn};
-ghost use Rattle.groups.specs.Steps.{WorkedOut, places, most, Stored, Behind, CutAt, FieldCut, Stands, Untouched, Taken};
+ghost use Rattle.groups.specs.Steps.{WorkedOut, places, most, Stored, LaterStand, CutAt, FieldCut, Stands, Untouched, Taken};
 
 pub const WORK_BYTES: usize = 2 * PIECES_MOST * BOX_BYTES;
 
@@ -81,11 +81,11 @@ fn keep_box(work: &mut [u8], half: usize, m: usize, at: usize) -> usize
     m + 1
 }
 
-// A part of the box that stands at a place, with the fields behind k as they are there, stored behind m others: as a copy of that box
-// and the fields up to k over it.
+// A part of the box that stands at a place, with the same later fields: stored behind m others, as a copy of that box with the fields up
+// to k put over it.
 fn store_part(work: &mut [u8], half: usize, m: usize, at: usize, k: usize, part: Box) -> usize
     requires { ⌜ (half + boxSize * places ≤ length (now work)) × (m < most) × (at + boxSize ≤ length (now work)) × (k < fields) ⌝ }
-    requires behind { ⌜ Behind k (regionOf part) at (now work) ⌝ }
+    requires later { ⌜ LaterStand k (regionOf part) at (now work) ⌝ }
     ensures { λ r. ⌜ Stored half (now (work .entry)) m (regionOf part ∷ []) (now (work .exit)) r ⌝ }
 {
     if m < PIECES_MOST {
@@ -98,27 +98,34 @@ fn store_part(work: &mut [u8], half: usize, m: usize, at: usize, k: usize, part:
 }
 
 // The part of the rest that is below the allow in field k: stored, if there is one.
-fn store_low(work: &mut [u8], half: usize, at: usize, cut: Underway, k: usize, ends: Ends) -> usize
-    requires { ⌜ CutAt half (now work) at cut k ends ⌝ }
-    ensures { λ r. ⌜ Stored half (now (work .entry)) (cut .stored) (partBelow (regionOf (cut .rest)) k (ends .from)) (now (work .exit)) r ⌝ }
+fn store_low(work: &mut [u8], half: usize, at: usize, done: Underway, k: usize, ends: Ends) -> usize
+    requires { ⌜ CutAt half (now work) at done k ends ⌝ }
+    ensures { λ r. ⌜ Stored half (now (work .entry)) (done .stored) (partBelow (regionOf (done .rest)) k (ends .from)) (now (work .exit)) r ⌝ }
 {
     if ends.low < ends.from {
-        let rest = cut.rest;
-        return store_part(work, half, cut.stored, at, k, rest.low_part(k, ends.from));
+        let rest = done.rest;
+        return store_part(work, half, done.stored, at, k, rest.low_part(k, ends.from));
     }
-    cut.stored
+    done.stored
 }
 
 // The part of the rest that is above the allow in field k: stored, if there is one.
-fn store_high(work: &mut [u8], half: usize, at: usize, cut: Underway, k: usize, ends: Ends) -> usize
-    requires { ⌜ CutAt half (now work) at cut k ends ⌝ }
-    ensures { λ r. ⌜ Stored half (now (work .entry)) (cut .stored) (partAbove (regionOf (cut .rest)) k (ends .to)) (now (work .exit)) r ⌝ }
+fn store_high(
+    work: &mut [u8],
+    half: usize,
+    at: usize,
+    done: Underway,
+    k: usize,
+    ends: Ends,
+) -> usize
+    requires { ⌜ CutAt half (now work) at done k ends ⌝ }
+    ensures { λ r. ⌜ Stored half (now (work .entry)) (done .stored) (partAbove (regionOf (done .rest)) k (ends .to)) (now (work .exit)) r ⌝ }
 {
     if ends.to < ends.high {
-        let rest = cut.rest;
-        return store_part(work, half, cut.stored, at, k, rest.high_part(k, ends.to));
+        let rest = done.rest;
+        return store_part(work, half, done.stored, at, k, rest.high_part(k, ends.to));
     }
-    cut.stored
+    done.stored
 }
 
 // Field k of the cut of the box that stands at a place: its low part and its high part stored, and the rest narrowed to the shared
@@ -127,33 +134,31 @@ fn cut_field(
     work: &mut [u8],
     half: usize,
     at: usize,
-    cut: Underway,
+    done: Underway,
     k: usize,
     ends: Ends,
 ) -> Underway
-    requires { ⌜ CutAt half (now work) at cut k ends × (cut .stored + 1 < most) ⌝ }
-    ensures { λ r. ⌜ FieldCut half (now (work .entry)) cut k ends (now (work .exit)) r ⌝ }
+    requires { ⌜ CutAt half (now work) at done k ends × (done .stored + 1 < most) ⌝ }
+    ensures { λ r. ⌜ FieldCut half (now (work .entry)) done k ends (now (work .exit)) r ⌝ }
 {
-    let rest = cut.rest;
-    let below = store_low(work, half, at, cut, k, ends);
-    let lower = Underway {
+    let rest = done.rest;
+    let below = store_low(work, half, at, done, k, ends);
+    let after_low = Underway {
         rest,
         stored: below,
     };
-    let stored = store_high(work, half, at, lower, k, ends);
+    let stored = store_high(work, half, at, after_low, k, ends);
     let rest = rest.narrow(k, larger(ends.low, ends.from), smaller(ends.high, ends.to));
     Underway { rest, stored }
 }
 
-// The pieces of d, which stands at a place, without a, with which it shares a packet: stored behind n others; how many boxes are then
-// there. A field is cut in a function of its own that is called from two places: so the compiler unrolls the loop first, and then
-// makes code for each field.
+// What a leaves of d, where they share a packet: stored behind n others; how many boxes are then there. d stands at a place.
 fn cut_box(work: &mut [u8], half: usize, n: usize, at: usize, d: Box, a: Box) -> usize
     requires { ⌜ (half + boxSize * places ≤ length (now work)) × (n + 2 * fields ≤ most) × (at + boxSize ≤ half) × (share (regionOf d) (regionOf a) ≡ true) ⌝ }
     requires written { ⌜ take boxSize (drop at (now work)) ≡ boxBytes (regionOf d) ⌝ }
     ensures { λ r. ⌜ Stored half (now (work .entry)) n (cut (regionOf d) (regionOf a)) (now (work .exit)) r ⌝ }
 {
-    let mut cut = Underway { rest: d, stored: n };
+    let mut done = Underway { rest: d, stored: n };
     let mut k: usize = 0;
     while k < FIELDS {
         let low = d.low_at(k);
@@ -167,15 +172,15 @@ fn cut_box(work: &mut [u8], half: usize, n: usize, at: usize, d: Box, a: Box) ->
             to,
         };
         if low < from {
-            cut = cut_field(work, half, at, cut, k, ends);
+            done = cut_field(work, half, at, done, k, ends);
         } else {
             if to < high {
-                cut = cut_field(work, half, at, cut, k, ends);
+                done = cut_field(work, half, at, done, k, ends);
             }
         }
         k += 1;
     }
-    cut.stored
+    done.stored
 }
 
 // What a leaves of the box whose bytes stand at a place, stored behind m others.

@@ -10,6 +10,10 @@ and-true false c h = (h, let z : false ≡ true = h in cc)
 pub and-both : (b c : Bool) → b ≡ true → c ≡ true → (b && c) ≡ true
 and-both b c h k = rw (h, k)
 
+pub and-false : (b : Bool) → (b && false) ≡ false
+and-false true = refl
+and-false false = refl
+
 pub or-false : (t u : Bool) → (t || u) ≡ false → (t ≡ false) × (u ≡ false)
 or-false true u h = (h, let z : true ≡ false = h in cc)
 or-false false u h = (refl, h)

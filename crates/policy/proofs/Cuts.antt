@@ -21,6 +21,10 @@ abbrev pub one : Bool → ℕ
 one true = 1
 one false = 0
 
+pub one-le : (t : Bool) → one t ≤ 1
+one-le true = omega arith
+one-le false = omega arith
+
 unfoldable pub hits : Packet → List Region → ℕ
 hits p [] = 0
 hits p (b ∷ bs) = one (inside p b) + hits p bs
@@ -252,12 +256,12 @@ share-of (x ∷ p) (r ∷ d) (s ∷ a) h k =
     let g = within-fact x s (v .0) in
     and-both (meets r s) (share d a) (and-both _ _ (le-leb (r .low) (s .high) (omega arith)) (le-leb (s .low) (r .high) (omega arith))) (share-of p d a (u .1) (v .1))
 
-share-itself : (b : Region) → Whole b → share b b ≡ true
+pub share-itself : (b : Region) → Whole b → share b b ≡ true
 unfolding share Whole
 share-itself [] w = refl
 share-itself (r ∷ b) w = rw (le-leb (r .low) (r .high) (w .0), share-itself b (w .1))
 
--- The same of `cut`, which is all that other files know of it.
+-- The same of `cut`.
 pub cut-hits : (p : Packet) (d a : Region) → Whole a → hits p (cut d a) ≡ one (inside p d && not (inside p a))
 unfolding cut hits
 cut-hits p d a w = go (share d a) refl

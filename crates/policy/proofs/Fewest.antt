@@ -3,7 +3,7 @@
 -- boxes, since a box with two of these would have the corner that d and a share. Assumes nothing.
 use mathlib.Core.Path.{_≡_, refl, ap, sym, _∙_}
 use mathlib.Core.List.{List, [], _∷_}
-use mathlib.Core.Bool.{Bool, true, false, cond, not, _&&_, _||_, true≢false, false≢true}
+use mathlib.Core.Bool.{Bool, true, false, cond, _&&_, _||_, true≢false, false≢true}
 use Prim.Native.Nat.{ℕ, _+_, _-_, _≤_, max}
 use native.Mathlib.Omega.{arith}
 use lib.Dec.{ltb}
@@ -12,8 +12,9 @@ use borrow.Author.Tests.{ltb-true}
 use Rattle.lists.proofs.Tests.{and-true, and-both, or-false}
 use Rattle.policy.specs.Ranges.{Range, range, Region, Packet, within, inside, Whole}
 use Rattle.policy.specs.Cut.{meets, share, lowPart, highPart, shared, before, pieces, cut, anyHas}
-use Rattle.policy.specs.Demands.{FewestTheorem}
-use Rattle.policy.proofs.Cuts.{one, hits, within-fact, within-true, meets-fact, share-of}
+use Rattle.policy.specs.Demands.{Left, WholeTheorem, FewestTheorem}
+use Rattle.policy.proofs.Cuts.{one, one-le, hits, within-fact, within-true, meets-fact, share-of, share-itself}
+use Rattle.policy.proofs.Rest.{cut-whole}
 
 -- The low corner of what d and a share.
 corner : Region → Region → Packet
@@ -67,15 +68,11 @@ at-most-one false true true true between e = absurd (false≢true (between refl 
 at-most-one false true false true between e = omega arith
 at-most-one false false true true between e = omega arith
 at-most-one false false false true between e = omega arith
-at-most-one u v w false between e = let a = none v in let b = none w in let c = small u in omega arith
+at-most-one u v w false between e = let a = none v in let b = none w in let c = one-le u in omega arith
   where
     none : (t : Bool) → one (t && false) ≡ 0
     none true = refl
     none false = refl
-
-    small : (t : Bool) → one t ≤ 1
-    small true = omega arith
-    small false = omega arith
 
 -- All boxes, where none has the corner.
 module _ (x y z : ℕ) (c : Packet) (between : (q : Range) → within y q ≡ true → within z q ≡ true → within x q ≡ true) where
@@ -94,9 +91,6 @@ module _ (x y z : ℕ) (c : Packet) (between : (q : Range) → within y q ≡ tr
       longer true = omega arith
       longer false = omega arith
 
-abbrev Exact : Region → Region → List Region → Type 0
-Exact d a l = (p : Packet) → anyHas p l ≡ (inside p d && not (inside p a))
-
 part-few : (t : Bool) (q : Range) (n : ℕ) → (t ≡ true → 1 ≤ n) → length (cond t (q ∷ []) []) ≤ n
 part-few true q n h = h refl
 part-few false q n h = omega arith
@@ -108,7 +102,7 @@ outside x s h = go (within x s) refl
     go true e = absurd (h (within-fact x s e))
     go false e = refl
 
-pieces-fewest : (d a : Region) → Whole d → Whole a → share d a ≡ true → (l : List Region) → Exact d a l → length (pieces d a) ≤ length l
+pieces-fewest : (d a : Region) → Whole d → Whole a → share d a ≡ true → (l : List Region) → Left d a l → length (pieces d a) ≤ length l
 unfolding share pieces Whole inside
 pieces-fewest [] a u v e l exact = omega arith
 pieces-fewest (r ∷ d) [] u v e l exact = omega arith
@@ -136,21 +130,16 @@ pieces-fewest (r ∷ d) (s ∷ a) u v e l exact =
     beside : (x : ℕ) → within x r ≡ true → within x s ≡ false → inside (corner d a) d ≡ true → 1 ≤ hits (x ∷ corner d a) l
     beside x g h c = has-hits (x ∷ corner d a) l (exact (x ∷ corner d a) ∙ rw (g, h, c))
 
--- The low corner of a box that is never empty.
-low-corner : (d : Region) → Whole d → (p : Packet) × (inside p d ≡ true)
-unfolding inside Whole
-low-corner [] u = ([], refl)
-low-corner (r ∷ d) u =
-    let c = low-corner d (u .1) in
-    (r .low ∷ c .0, and-both (within (r .low) r) (inside (c .0) d) (within-true (r .low) r (omega arith) (u .0)) (c .1))
-
 pub cut-fewest : FewestTheorem
 unfolding cut anyHas
 cut-fewest d a u v l exact = go (share d a) refl
   where
     go : (t : Bool) → share d a ≡ t → length (cond t (pieces d a) (d ∷ [])) ≤ length l
     go true e = pieces-fewest d a u v e l exact
-    go false e = let c = low-corner d u in some (c .0) l (exact (c .0) ∙ rw (c .1, out (c .0) (inside (c .0) a) refl (c .1)))
+    go false e =
+        let p : Packet = corner d d in
+        let h = corner-inside d d u u (share-itself d u) .0 in
+        some p l (exact p ∙ rw (h, out p (inside p a) refl h))
       where
         out : (p : Packet) (t : Bool) → inside p a ≡ t → inside p d ≡ true → t ≡ false
         out p true f g = absurd (true≢false (sym (share-of p d a g f) ∙ e))
@@ -159,3 +148,10 @@ cut-fewest d a u v l exact = go (share d a) refl
         some : (p : Packet) (l : List Region) → anyHas p l ≡ true → 1 ≤ length l
         some p [] h = absurd (false≢true h)
         some p (b ∷ l) h = omega arith
+
+pub cut-left-whole : WholeTheorem
+cut-left-whole d a u v none = go (share d a) refl
+  where
+    go : (t : Bool) → share d a ≡ t → cut d a ≡ d ∷ []
+    go true e = let c = corner-inside d a u v e in absurd (true≢false (sym (c .1) ∙ none (corner d a) (c .0)))
+    go false e = cut-whole d a e

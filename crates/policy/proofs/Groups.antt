@@ -14,7 +14,7 @@ use Rattle.lists.specs.Lists.{Each}
 use Rattle.lists.proofs.Lists.{each-append, each-imp}
 use Rattle.policy.specs.Move.{over}
 use Rattle.policy.specs.Demands.{Piece, Apart}
-use Rattle.policy.proofs.Cuts.{one, hits, hits-append, cut-hits, cut-inside, within-self}
+use Rattle.policy.proofs.Cuts.{one, one-le, hits, hits-append, cut-hits, cut-inside, within-self}
 
 hit : (p : Packet) (l : List Region) (i : ℕ) → i < length l → inside p (getD l i []) ≡ true → 1 ≤ hits p l
 unfolding hits
@@ -29,10 +29,6 @@ hit-twice p (b ∷ l) zero zero o h e f = omega arith
 hit-twice p (b ∷ l) (suc i) zero o h e f = omega arith
 hit-twice p (b ∷ l) zero (suc j) o h e f = let g = hit p l j (omega arith) f in rw e (omega arith)
 hit-twice p (b ∷ l) (suc i) (suc j) o h e f = let g = hit-twice p l i j (omega arith) (omega arith) e f in omega arith
-
-one-le : (t : Bool) → one t ≤ 1
-one-le true = omega arith
-one-le false = omega arith
 
 -- a list of boxes that counts each packet of a test once is apart
 pub once-apart : (t : Packet → Bool) (l : List Region) → ((p : Packet) → hits p l ≡ one (t p)) → Apart l

@@ -1,5 +1,4 @@
--- What is left of a cut when the first k fields are done: the only file beside Cuts that knows how a cut goes through the
--- fields. Assumes nothing.
+-- What is left of a cut when the first k fields are done. Assumes nothing.
 use mathlib.Core.Path.{_≡_, refl, ap, ap₂, sym}
 use mathlib.Core.List.{List, [], _∷_, _++_, map, append-assoc}
 use mathlib.Core.Bool.{Bool, true, false, cond}

@@ -8,14 +8,11 @@ use lib.Dec.{leb}
 use lib.ListN.{length, drop, drop-of-length-le}
 use lib.Seq.{drop-cons}
 use borrow.Author.Tests.{le-leb, lt-leb}
+use Rattle.lists.proofs.Tests.{and-false}
 use Rattle.policy.specs.Fields.{fields}
 use Rattle.policy.specs.Ranges.{range, Region}
 use Rattle.policy.specs.Steps.{rangeAt}
 use Rattle.policy.specs.Cut.{meets, share}
-
-and-false : (t : Bool) → (t && false) ≡ false
-and-false true = refl
-and-false false = refl
 
 -- At field k those before it share a value each.
 pub record Sharing (d a : Region) (k : ℕ) : Type 0 where

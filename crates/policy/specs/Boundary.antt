@@ -1,14 +1,16 @@
 -- The first twelve lines of the boundary table, as one table under one statement (01, Boundary table; the second line as 02, W2,
--- has it). Assumes nothing.
+-- has it); and the second line as it was moved before. Assumes nothing.
 use mathlib.Core.Path.{_≡_}
 use mathlib.Core.List.{List, [], _∷_, _++_}
 use mathlib.Core.Bool.{true}
 use Prim.Native.Nat.{ℕ, _-_}
 use lib.ListN.{length, drop}
+use Rattle.policy.specs.Fields.{limits}
 use Rattle.policy.specs.Ranges.{range, Region, Packet, inside, Whole}
 use Rattle.policy.specs.Cut.{cut, group}
 use Rattle.policy.specs.Rules.{full, Rule, rule, Found, found, first}
-use Rattle.policy.specs.Move.{moved}
+use Rattle.policy.specs.Move.{Pair, moved}
+use Rattle.policy.specs.Check.{checkRefusal}
 
 -- The table's M, the highest address.
 abbrev M : ℕ
@@ -74,3 +76,14 @@ Right (l ∷ ls) = Holds l × Right ls
 
 abbrev pub BoundaryTheorem : Type 0
 BoundaryTheorem = Right boundaryTable
+
+-- The second line as a gate, with the three boxes that were made of its deny before W2.
+abbrev pub movedBefore : Pair
+movedBefore = record {
+  order = record { gate = rule (box 3 5 6 9) 1 ∷ rule (box 0 9 0 4) 0 ∷ rule full 1 ∷ []; own = rule full 1 ∷ [] };
+  groups = (box 0 2 0 4 ∷ box 6 9 0 4 ∷ box 3 5 0 4 ∷ []) ∷ [];
+}
+
+-- 02, W2: check refuses it with 8.
+abbrev pub OldCutTheorem : Type 0
+OldCutTheorem = checkRefusal limits movedBefore ≡ 8

@@ -5,11 +5,11 @@ use Prim.Native.Nat.{_+_, _-_, min, max}
 use lib.Dec.{leb, ltb}
 use Rattle.policy.specs.Ranges.{Range, range, Region, Packet, inside}
 
--- The ranges share a value.
+-- The ranges, neither of them empty, have a value in common.
 abbrev pub meets : Range → Range → Bool
 meets r s = leb (r .low) (s .high) && leb (s .low) (r .high)
 
--- The boxes share a packet: they have as many fields, and in each a value that both have.
+-- The boxes, neither of them empty, have a packet in common: in each of as many fields a value that both have.
 unfoldable pub share : Region → Region → Bool
 share [] [] = true
 share [] (s ∷ a) = false

@@ -1,5 +1,5 @@
--- What is claimed of first match, of a cut and of a group, each theorem as a type that has one value in proofs/Demands.antt; and
--- what it is for an edit to leave other rules' groups alone. Assumes nothing.
+-- What is claimed of first match, of a cut and of a group, each theorem as a type that has one value in proofs/; and what it is for
+-- an edit to leave other rules' groups alone. Assumes nothing.
 use mathlib.Core.Path.{_≡_}
 use mathlib.Core.List.{List, [], _∷_}
 use mathlib.Core.Bool.{true, false, not, _&&_, _||_}
@@ -26,24 +26,30 @@ abbrev pub Apart : List Region → Type 0
 Apart l =
     (i j : ℕ) → i < j → j < length l → (p : Packet) → inside p (getD l i []) ≡ true → inside p (getD l j []) ≡ true → ⊥
 
--- 01, Cutting one box from another: the pieces of d less a, over any number of fields, together have exactly the packets of d
--- that a does not have.
+-- The boxes together have exactly the packets of d that a does not have.
+abbrev pub Left : Region → Region → List Region → Type 0
+Left d a l = (p : Packet) → anyHas p l ≡ (inside p d && not (inside p a))
+
+-- 01, Cutting one box from another: the pieces of d less a, over any number of fields.
 pub record CutHolds (d a : Region) : Type 0 where
   pub parts : Each (Piece d) (cut d a)
   pub few : length (cut d a) ≤ 2 * length d
   pub apart : Apart (cut d a)
-  pub exact : (p : Packet) → anyHas p (cut d a) ≡ (inside p d && not (inside p a))
+  pub exact : Left d a (cut d a)
 
 abbrev pub CutTheorem : Type 0
 CutTheorem = (d a : Region) → Whole d → Whole a → length a ≡ length d → CutHolds d a
 
--- 02, W2: no list of boxes with exactly those packets is shorter than the cut.
-abbrev pub FewestTheorem : Type 0
-FewestTheorem =
-    (d a : Region) → Whole d → Whole a → (l : List Region)
-    → ((p : Packet) → anyHas p l ≡ (inside p d && not (inside p a))) → length (cut d a) ≤ length l
+-- 02, W2: where no packet is in both boxes, the deny box is left whole.
+abbrev pub WholeTheorem : Type 0
+WholeTheorem =
+    (d a : Region) → Whole d → Whole a → ((p : Packet) → inside p d ≡ true → inside p a ≡ false) → cut d a ≡ d ∷ []
 
--- What `CutHolds` says, of the group of deny box d after these allows.
+-- Beyond 02: no list of boxes that leaves the same packets is shorter than the cut.
+abbrev pub FewestTheorem : Type 0
+FewestTheorem = (d a : Region) → Whole d → Whole a → (l : List Region) → Left d a l → length (cut d a) ≤ length l
+
+-- What `CutHolds` says, but for the number, of the group of deny box d after these allows.
 pub record GroupHolds (d : Region) (allows : List Region) : Type 0 where
   pub parts : Each (Piece d) (group (d ∷ []) allows)
   pub apart : Apart (group (d ∷ []) allows)

@@ -1,16 +1,13 @@
 -- The printed example (01, Boundary table, the program `plan`): a gate of three rules, a cell that allows all, and the cell list
--- that a move gives; and a pair of before W2. Assumes nothing.
+-- that a move gives. Assumes nothing.
 use mathlib.Core.Path.{_≡_}
 use mathlib.Core.List.{List, [], _∷_}
 use mathlib.Core.Bool.{true, false}
 use Prim.Native.Nat.{ℕ}
-use lib.ListN.{drop}
-use Rattle.policy.specs.Fields.{limits}
 use Rattle.policy.specs.Ranges.{range, Region, Packet}
 use Rattle.policy.specs.Rules.{full, Rule, rule, forwards}
-use Rattle.policy.specs.Move.{Order, Pair, moved, gateList, cellList}
+use Rattle.policy.specs.Move.{Order, moved, gateList, cellList}
 use Rattle.policy.specs.Edit.{delete, edited}
-use Rattle.policy.specs.Check.{checkRefusal}
 
 -- Any source and source port; destination, destination port and protocol from one value up to another.
 abbrev reaching : ℕ → ℕ → ℕ → ℕ → ℕ → ℕ → Region
@@ -46,19 +43,3 @@ pub record ExampleTheorem : Type 0 where
   pub uncut : edited (record { inGate = true; place = 0; kind = delete }) (moved example) .groups ≡ exampleUncut
   pub denied : forwards exampleDenied (example .gate) (example .own) ≡ false
   pub gate-first-opens : forwards exampleDenied (gateList (moved example)) (example .own) ≡ true
-
--- Any ports and protocol; source and destination from one value up to another.
-abbrev between : ℕ → ℕ → ℕ → ℕ → Region
-between s₁ s₂ d₁ d₂ = range s₁ s₂ ∷ range d₁ d₂ ∷ drop 2 full
-
--- The boundary table's second line as a gate, with the three boxes that the printed algorithm made of its deny.
-abbrev pub movedBefore : Pair
-movedBefore = record {
-  order = record { gate = rule (between 3 5 6 9) 1 ∷ rule (between 0 9 0 4) 0 ∷ rule full 1 ∷ []; own = rule full 1 ∷ [] };
-  groups = (between 0 2 0 4 ∷ between 6 9 0 4 ∷ between 3 5 0 4 ∷ []) ∷ [];
-}
-
--- 02, W2: check refuses such a pair with 8, and of its lists moved again it refuses nothing.
-pub record BeforeTheorem : Type 0 where
-  pub stale : checkRefusal limits movedBefore ≡ 8
-  pub again : checkRefusal limits (moved (movedBefore .order)) ≡ 0

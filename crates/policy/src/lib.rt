@@ -181,7 +181,7 @@ impl Box {
         self.narrow(k, x + 1, value_at(high, k))
     }
 
-    // Whether some packet is in both boxes.
+    // Whether the boxes, neither of them empty, have a packet in common.
     pub fn shares(self, a: Box) -> bool
         ensures { λ r. ⌜ r ≡ share (regionOf self) (regionOf a) ⌝ }
     {

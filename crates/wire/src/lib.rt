@@ -44,8 +44,8 @@ fn one_at(s: &[u8], at: usize) -> u32
     wide(s[at])
 }
 
-// The number whose four bytes are those of x in the other order. A machine that keeps the lowest byte first stores its bytes in one
-// step, where those of x would be stored one by one.
+// The number whose four bytes are those of x in the other order. Of its bytes, the lowest first, the compiler makes one store; of x's
+// own bytes it makes a store each.
 fn turned_four(x: u32) -> u32
     ensures { λ r. ⌜ lowFirst 4 r ≡ numberBytes 4 x ⌝ }
 {

@@ -13,11 +13,11 @@ use Rattle.groups.proofs.cut_box.Statement.{statement}
 use Rattle.groups.proofs.cut_box.Tie as tie
 
 abbrev Inv-loop : tie.InvT-loop
-Inv-loop work₀ half n at d a cut₀ k₀ work cut k =
-    Cutting half work₀ n (regionOf d) (regionOf a) work (cut .stored) (regionOf (cut .rest)) k
+Inv-loop work₀ half n at d a done₀ k₀ work done k =
+    Cutting half work₀ n (regionOf d) (regionOf a) work (done .stored) (regionOf (done .rest)) k
 
 abbrev μ-loop : tie.MeasureT-loop
-μ-loop work₀ half n at d a cut₀ k₀ work cut k = fields - k
+μ-loop work₀ half n at d a done₀ k₀ work done k = fields - k
 
 loop-holds : tie.Need-loop-holds Inv-loop μ-loop
 loop-holds c =

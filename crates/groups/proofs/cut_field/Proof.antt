@@ -16,7 +16,7 @@ store-low-requires c κs = c .before .before .before .pre .0
 store-high-requires : tie.Need-store-high-requires
 store-high-requires c κs =
     let x = c .before .before .before .before .before .before .before in
-    cut-at-kept (x .pre .0) (c .before .before .before .store-low .ensures) (below-few (regionOf (x .args .cut .rest)) (x .args .k) (x .args .ends .from) (c .before .before .before .store-low .ensures)) (x .pre .1)
+    cut-at-kept (x .pre .0) (c .before .before .before .store-low .ensures) (below-few (regionOf (x .args .done .rest)) (x .args .k) (x .args .ends .from) (c .before .before .before .store-low .ensures)) (x .pre .1)
 
 larger-requires : tie.Need-larger-requires
 larger-requires c κs = search needs
@@ -33,7 +33,7 @@ same-length c = search needs
 returns : tie.Need-returns
 returns c =
     let x = c .before .before .before .before .before .before .before .before .before .before .before .before .before in
-    let b : Region = regionOf (x .args .cut .rest) in
+    let b : Region = regionOf (x .args .done .rest) in
     let e : range (x .args .ends .low) (x .args .ends .high) ≡ _ = x .pre .0 .own in
     record {
       parts = stored-then (c .before .before .before .before .before .before .before .before .before .store-low .ensures) (c .before .before .before .before .before .store-high .ensures);

@@ -5,7 +5,7 @@ use mathlib.Core.Path.{ap}
 use Rattle.policy.specs.Ranges.{Range}
 use Rattle.policy.specs.Values.{regionOf}
 use Rattle.groups.proofs.Stores.{stored-none}
-use Rattle.groups.proofs.Parts.{behind-part}
+use Rattle.groups.proofs.Parts.{later-part}
 use Rattle.groups.proofs.Cutting.{below-some, below-none}
 use Rattle.groups.proofs.store_low.Statement.{statement}
 use Rattle.groups.proofs.store_low.Tie as tie
@@ -17,7 +17,7 @@ store-part-requires : tie.Need-store-part-requires
 store-part-requires c κs =
     let x = c .before .before .before .before .before .before in
     let g = x .pre in
-    ((g .room, g .few, omega (arith, g .room, g .before), g .inside), behind-part (x .args .k) (regionOf (x .args .cut .rest)) (x .args .at) (x .args .work .now) _ _ (c .low-part .ensures) (g .behind))
+    ((g .room, g .few, omega (arith, g .room, g .before), g .inside), later-part (x .args .k) (regionOf (x .args .done .rest)) (x .args .at) (x .args .work .now) _ _ (c .low-part .ensures) (g .later))
 
 same-length : tie.Need-same-length
 same-length c = search needs
@@ -27,7 +27,7 @@ returns c =
     let x = c .before .before .before .before .before .before .before .before .before in
     let e = ap (λ (r : Range). r .low) (x .pre .own) in
     rw (
-      below-some (regionOf (x .args .cut .rest)) (x .args .k) (x .args .ends .from) (omega (arith, e, c .before .before .before .before .before .before .if1 .taken)),
+      below-some (regionOf (x .args .done .rest)) (x .args .k) (x .args .ends .from) (omega (arith, e, c .before .before .before .before .before .before .if1 .taken)),
       ← c .before .before .before .low-part .ensures,
     )
     (c .before .before .store-part .ensures)
@@ -36,8 +36,8 @@ returns-2 : tie.Need-returns-2
 returns-2 c =
     let x = c .before .before .before in
     let e = ap (λ (r : Range). r .low) (x .pre .own) in
-    rw (below-none (regionOf (x .args .cut .rest)) (x .args .k) (x .args .ends .from) (omega (arith, e, c .if1 .left)))
-    (stored-none (x .args .half) (x .args .work .now) (x .args .cut .stored))
+    rw (below-none (regionOf (x .args .done .rest)) (x .args .k) (x .args .ends .from) (omega (arith, e, c .if1 .left)))
+    (stored-none (x .args .half) (x .args .work .now) (x .args .done .stored))
 
 pub store-low-spec : {M : Type 1} → statement M
 store-low-spec = tie.close (tie.spec low-part-requires store-part-requires same-length returns returns-2)

@@ -41,7 +41,7 @@ returns c =
     let h : length (a .part .high) ≡ fields = search needs in
     let last = c .before .before .put-fields .last .0 in
     stored-in (a .half) (a .work .now) last (a .m) _ (regionOf (a .part)) (omega arith) refl
-    (part-stored (a .k) (regionOf (a .part)) (omega arith) (ranges-length (a .part .low) (a .part .high) (cc) ∙ l) (a .work .now) (c .before .before .before .before .before .before .move-box .last .0) last (a .at) (a .half + boxSize * a .m)
+    (part-stored (a .k) (regionOf (a .part)) (ranges-length (a .part .low) (a .part .high) (cc) ∙ l) (a .work .now) (c .before .before .before .before .before .before .move-box .last .0) last (a .at) (a .half + boxSize * a .m)
     (omega arith) (omega arith) (x .pre .1) (c .before .before .before .before .before .before .move-box .ensures) (c .before .before .put-fields .ensures))
 
 add-result-2 : tie.Need-add-result-2
