@@ -1,13 +1,14 @@
 -- The loop over the fields of a cut: what it knows at field k, and what one field stores. Assumes nothing.
 use mathlib.Core.Path.{_≡_, refl, ap, sym, _∙_}
 use mathlib.Core.List.{List, [], _∷_, _++_, append-assoc}
-use mathlib.Core.Bool.{Bool, true, false, cond}
+use mathlib.Core.Bool.{true}
 use Prim.Native.Nat.{ℕ, _+_, _-_, _*_, _<_, _≤_, min, max}
 use native.Mathlib.Omega.{arith}
 use lib.Dec.{ltb}
 use lib.ListN.{length, take, drop, set, length-set, length-append}
 use lib.Seq.{drop-drop, drop-set-lt, getD-drop, set-getD}
 use borrow.Author.Tests.{lt-ltb, le-ltb}
+use Rattle.lists.proofs.Lists.{some-few}
 use Rattle.policy.specs.Fields.{fields, boxSize}
 use Rattle.policy.specs.Ranges.{Range, range, Region}
 use Rattle.policy.specs.Values.{regionOf}
@@ -44,13 +45,9 @@ shared-all b k s p q =
     let y : min (r .high) (s .high) ≡ r .high = omega arith in
     sym (ap (set b k) (λ i. range (x i) (y i)) ∙ set-getD b k (range 0 0))
 
-one-or-none : (t : Bool) (b : Region) → length (cond t (b ∷ []) []) ≤ 1
-one-or-none true b = omega arith
-one-or-none false b = omega arith
-
 -- A low part adds one box at most, and the cut is still at its field when it is stored.
 pub below-few : {half : ℕ} {work work′ : List ℕ} {m r : ℕ} (b : Region) (k x : ℕ) → Stored half work m (partBelow b k x) work′ r → r ≤ m + 1
-below-few b k x s = omega (arith, s .count, one-or-none (ltb (rangeAt b k .low) x) (set b k (range (rangeAt b k .low) (x - 1))))
+below-few b k x s = let f = some-few (ltb (rangeAt b k .low) x) (set b k (range (rangeAt b k .low) (x - 1))) 1 (λ t. omega arith) in omega (arith, s .count)
 
 pub cut-at-kept : {half : ℕ} {work work′ : List ℕ} {at : ℕ} {done : Underway} {k : ℕ} {ends : Ends} {l : List Region} {r : ℕ} → CutAt half work at done k ends
     → Stored half work (done .stored) l work′ r → r ≤ done .stored + 1 → done .stored + 1 < most → CutAt half work′ at (record { rest = done .rest; stored = r }) k ends
@@ -112,8 +109,8 @@ module _ {half : ℕ} {work₀ : List ℕ} {n : ℕ} {d a : Region} {work : List
         let f : ℕ = rangeAt a k .low in
         let u : ℕ = rangeAt a k .high in
         let both : Range = shared (rangeAt c k) (rangeAt a k) in
-        let x = one-or-none (ltb (rangeAt c k .low) f) (set c k (range (rangeAt c k .low) (f - 1))) in
-        let y = one-or-none (ltb u (rangeAt c k .high)) (set c k (range (u + 1) (rangeAt c k .high))) in
+        let x = some-few (ltb (rangeAt c k .low) f) (set c k (range (rangeAt c k .low) (f - 1))) 1 (λ t. omega arith) in
+        let y = some-few (ltb u (rangeAt c k .high)) (set c k (range (u + 1) (rangeAt c k .high))) 1 (λ t. omega arith) in
         let z = length-append (partBelow c k f) (partAbove c k u) in
         let split : rest k c a ≡ (partBelow c k f ++ partAbove c k u) ++ rest (k + 1) next a =
         rest-field k c a (omega (arith, g .full)) (omega (arith, g .allow)) ∙ rw e (sym (append-assoc (partBelow c k f) (partAbove c k u) (rest (k + 1) (set c k both) a))) in

@@ -9,7 +9,7 @@ use Rattle.lists.proofs.Lists.{sets-parts, take-sets}
 use Rattle.policy.specs.Fields.{fields, widths, sizeOf, boxSize}
 use Rattle.policy.specs.Ranges.{Range, Region}
 use Rattle.wire.specs.Records.{rangesBytes, boxBytes}
-use Rattle.wire.proofs.Records.{front-length, ranges-split, size-split}
+use Rattle.wire.proofs.Records.{rangesBytes-length, ranges-split, size-split}
 use Rattle.groups.specs.Steps.{LaterStand}
 use Rattle.groups.proofs.Pieces.{bytes-alike}
 
@@ -29,7 +29,7 @@ sets-over l u v i h g =
     (sym (sets-parts l i w (omega arith) ∙ ap (λ (n : ℕ). take i l ++ (w ++ drop (i + n) l)) lw)))
 
 front-size : (n : ℕ) (b : Region) → length b ≡ fields → length (rangesBytes (take n widths) b) ≡ sizeOf (take n widths)
-front-size n b full = front-length (take n widths) b (omega (arith, length-take n widths))
+front-size n b full = rangesBytes-length (take n widths) b (omega (arith, length-take n widths))
 
 module _ (k : ℕ) (b : Region) where
   pub part-stored : length b ≡ fields → (work copied last : List ℕ) (at to : ℕ) → at + boxSize ≤ length work → to + boxSize ≤ length work → LaterStand k b at work

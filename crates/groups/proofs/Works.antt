@@ -2,15 +2,14 @@
 use mathlib.Core.Path.{_≡_, refl, ap, sym, _∙_}
 use mathlib.Core.List.{List, [], _∷_, _++_, append-nil}
 use mathlib.Core.Bool.{true, false}
-use Prim.Native.Nat.{ℕ, zero, suc, _+_, _*_, _<_, _≤_}
+use Prim.Native.Nat.{ℕ, _+_, _*_, _<_, _≤_}
 use native.Mathlib.Omega.{arith}
 use native.Mathlib.Numerals.{add-one}
-use lib.ListN.{length, getD, take, drop, drop-of-length-le}
+use lib.ListN.{length, take, drop, drop-of-length-le}
 use lib.Seq.{sets, sets-eq, take-at, drop-cons}
 use borrow.Author.Tests.{lt-ltb, le-ltb, eq-eqb, ne-eqb}
 use Rattle.lists.specs.Lists.{Each, every}
-use Rattle.lists.proofs.Tests.{and-true}
-use Rattle.lists.proofs.Lists.{drop-sets}
+use Rattle.lists.proofs.Lists.{drop-sets, every-at}
 use Rattle.policy.specs.Fields.{widths, recordSize, boxSize, limits, workSize}
 use Rattle.policy.specs.Ranges.{Region}
 use Rattle.policy.specs.Rules.{Rule, rule, Proper, sound, allowsIn}
@@ -23,17 +22,10 @@ use Rattle.groups.specs.Steps.{startAt, allowsAt, workedOf, GroupStands,
 use Rattle.groups.specs.declared.Worked.the-variants.{Boxes, TooMany}
 use Rattle.groups.proofs.Taken.{cutEach-proper}
 
--- A rule of a list that number 4 lets pass.
-sound-at : (l : List Rule) (d : Rule) → every sound l ≡ true → (j : ℕ) → j < length l → sound (getD l j d) ≡ true
-unfolding every
-sound-at [] d h j k = absurd (omega arith)
-sound-at (r ∷ l) d h zero k = and-true (sound r) (every sound l) h .0
-sound-at (r ∷ l) d h (suc j) k = sound-at l d (and-true (sound r) (every sound l) h .1) j (omega arith)
-
 pub proper-at : (n : ℕ) (rules : List ℕ) (j : ℕ) {r : Rule} → every sound (rulesIn n rules) ≡ true → j < n → r ≡ ruleIn (drop (recordSize * j) rules) → Proper (r .region)
 proper-at n rules j {r} h k e =
     let d : Rule = rule [] 0 in
-    rule-proper r (rw (rule-in-place j n rules d k, ← e) at (sound-at (rulesIn n rules) d h j (rw rulesIn-length k)))
+    rule-proper r (rw (rule-in-place j n rules d k, ← e) at (every-at sound (rulesIn n rules) d h j (rw rulesIn-length k)))
 
 -- A deny rule plays no part in what is left of the list, an allow is the next to take.
 module _ (rules : List ℕ) (i j : ℕ) (t : j < i) {r : Rule} (e : r ≡ ruleIn (drop (recordSize * j) rules)) where

@@ -171,6 +171,8 @@ fn cut_box(work: &mut [u8], half: usize, n: usize, at: usize, d: Box, a: Box) ->
             from,
             to,
         };
+        // A field that lies in the allow's gives no part. Two calls and not one, so that the compiler unrolls this loop before it puts
+        // `cut_field` into it.
         if low < from {
             done = cut_field(work, half, at, done, k, ends);
         } else {

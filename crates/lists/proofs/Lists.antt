@@ -1,7 +1,7 @@
 -- Laws on lists that the logic's own library lacks. Assumes nothing.
 use mathlib.Core.Path.{_≡_, refl, ap, _∙_}
 use mathlib.Core.List.{List, [], _∷_, _++_, map, append-assoc}
-use mathlib.Core.Bool.{Bool, true}
+use mathlib.Core.Bool.{Bool, true, false, cond}
 use Prim.Native.Nat.{ℕ, zero, suc, _+_, _<_, _≤_}
 use native.Mathlib.Omega.{arith}
 use lib.ListN.{length, getD, set, take, drop, take-append-drop}
@@ -16,6 +16,11 @@ map-append f (a ∷ l) k = ap (λ (r : List _). f a ∷ r) (map-append f l k)
 pub append-none {ℓ} : {A : Type ℓ} (l : List A) → l ++ [] ≡ l
 append-none [] = refl
 append-none (a ∷ l) = ap (λ (r : List _). a ∷ r) (append-none l)
+
+-- One element or none, by a test.
+pub some-few : {A : Type 0} (t : Bool) (a : A) (n : ℕ) → (t ≡ true → 1 ≤ n) → length (cond t (a ∷ []) []) ≤ n
+some-few true a n h = h refl
+some-few false a n h = omega arith
 
 -- A list is its part before a place, a stretch of n, and the rest.
 pub three-parts {ℓ} : {A : Type ℓ} (i n : ℕ) (l : List A) → take i l ++ (take n (drop i l) ++ drop n (drop i l)) ≡ l

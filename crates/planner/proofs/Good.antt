@@ -8,10 +8,10 @@ use native.Mathlib.Omega.{arith}
 use lib.ListN.{length, drop, length-append, length-map}
 use lib.Seq.{drop-at}
 use borrow.Author.Tests.{ltb-false, le-ltb}
-use Rattle.lists.specs.Lists.{Each}
+use Rattle.lists.specs.Lists.{Each, everyBoth}
 use Rattle.lists.proofs.Lists.{each-append, each-drop, each-imp, every-each, map-append}
 use Rattle.policy.specs.Fields.{highest, boxSize, countSize, Limits}
-use Rattle.policy.specs.Ranges.{Region, proper, everyField, fullOver}
+use Rattle.policy.specs.Ranges.{Region, proper, fullOver}
 use Rattle.policy.specs.Rules.{Rule, sound, complete, allowsIn, Proper}
 use Rattle.policy.specs.Refusals.{faults}
 use Rattle.policy.specs.Move.{Slot, slots, slotsOf, startOf, boxesOf, together, work, room, Order, Pair, moved, denials, gateList, cellList}
@@ -100,7 +100,7 @@ unfolding listRefusal
 list-none most l a b f c = rw (le-ltb (length l) 1 a, le-ltb most (length l) b, f, c)
 
 pub gate-list-good : (lim : Limits) (p : Pair) → 1 ≤ lim .total → listRefusal (lim .total) (gateList p) ≡ 0
-unfolding faults sound complete highest everyField fullOver
+unfolding faults sound complete highest everyBoth fullOver
 gate-list-good lim p h = list-none (lim .total) (gateList p) (omega arith) (omega arith) refl refl
 
 pub cell-list-good : (lim : Limits) (o : Order) → moveRefusal lim o ≡ 0 → listRefusal (lim .total) (cellList (moved o)) ≡ 0

@@ -4,31 +4,32 @@ use mathlib.Core.List.{List, [], _∷_}
 use mathlib.Core.Bool.{Bool, true, not, false≢true}
 use lib.Dec.{eqb}
 use borrow.Author.Tests.{eqb-true, eq-eqb, not-false}
+use Rattle.lists.specs.Lists.{everyBoth}
 use Rattle.lists.proofs.Tests.{and-true, and-both}
 use Rattle.policy.specs.Fields.{Limits}
 use Rattle.policy.specs.Ranges.{Range, Region}
 use Rattle.policy.specs.Refusals.{given}
-use Rattle.policy.specs.Check.{sameList, sameRange, sameGroups, checkRefusal}
+use Rattle.policy.specs.Check.{sameRange, sameGroups, checkRefusal}
 use Rattle.policy.specs.Move.{slotsOf, Order, Pair, moved, work, room}
 use Rattle.policy.proofs.Refused.{moveRefusal}
 use Rattle.policy.proofs.Numbers.{orElse-zero, orElse-both, given-zero}
 use Rattle.policy.proofs.Edits.{move-accepted}
 
-pub same-sound : {A : Type 0} (f : A → A → Bool) → ((a b : A) → f a b ≡ true → a ≡ b) → (l k : List A) → sameList f l k ≡ true → l ≡ k
-unfolding sameList
+pub same-sound : {A : Type 0} (f : A → A → Bool) → ((a b : A) → f a b ≡ true → a ≡ b) → (l k : List A) → everyBoth f l k ≡ true → l ≡ k
+unfolding everyBoth
 same-sound f s [] [] h = refl
 same-sound f s [] (b ∷ k) h = absurd (false≢true h)
 same-sound f s (a ∷ l) [] h = absurd (false≢true h)
 same-sound f s (a ∷ l) (b ∷ k) h =
-    let g = and-true (f a b) (sameList f l k) h in
+    let g = and-true (f a b) (everyBoth f l k) h in
     let e = s a b (g .0) in
     let i = same-sound f s l k (g .1) in
     λ t. e t ∷ i t
 
-pub same-self : {A : Type 0} (f : A → A → Bool) → ((a : A) → f a a ≡ true) → (l : List A) → sameList f l l ≡ true
-unfolding sameList
+pub same-self : {A : Type 0} (f : A → A → Bool) → ((a : A) → f a a ≡ true) → (l : List A) → everyBoth f l l ≡ true
+unfolding everyBoth
 same-self f s [] = refl
-same-self f s (a ∷ l) = and-both (f a a) (sameList f l l) (s a) (same-self f s l)
+same-self f s (a ∷ l) = and-both (f a a) (everyBoth f l l) (s a) (same-self f s l)
 
 range-sound : (r s : Range) → sameRange r s ≡ true → r ≡ s
 range-sound r s h =
@@ -39,12 +40,12 @@ range-sound r s h =
 
 pub groups-sound : (gs hs : List (List Region)) → sameGroups gs hs ≡ true → gs ≡ hs
 unfolding sameGroups
-groups-sound = same-sound (sameList (sameList sameRange)) (same-sound (sameList sameRange) (same-sound sameRange range-sound))
+groups-sound = same-sound (everyBoth (everyBoth sameRange)) (same-sound (everyBoth sameRange) (same-sound sameRange range-sound))
 
 pub groups-self : (gs : List (List Region)) → sameGroups gs gs ≡ true
 unfolding sameGroups
 groups-self =
-    same-self (sameList (sameList sameRange)) (same-self (sameList sameRange) (same-self sameRange (λ (r : Range). and-both (eqb (r .low) (r .low)) (eqb (r .high) (r .high)) (eq-eqb (r .low) (r .low) refl) (eq-eqb (r .high) (r .high) refl))))
+    same-self (everyBoth (everyBoth sameRange)) (same-self (everyBoth sameRange) (same-self sameRange (λ (r : Range). and-both (eqb (r .low) (r .low)) (eqb (r .high) (r .high)) (eq-eqb (r .low) (r .low) refl) (eq-eqb (r .high) (r .high) refl))))
 
 -- what check accepts is a moved pair
 pub checked-is-moved : (lim : Limits) (s : Pair) → checkRefusal lim s ≡ 0 → s ≡ moved (s .order)

@@ -4,14 +4,14 @@ use mathlib.Core.Path.{_≡_, refl, ap, sym, _∙_}
 use mathlib.Core.List.{List, [], _∷_, _++_, map}
 use mathlib.Core.Bool.{Bool, true, false, cond, not, _&&_, true≢false, false≢true}
 use mathlib.Core.Logic.{_⊎_, inl, inr, ⊎-elim}
-use Prim.Native.Nat.{ℕ, suc, _+_, _-_, _*_, _≤_, _<_}
+use Prim.Native.Nat.{ℕ, _+_, _-_, _*_, _≤_, _<_}
 use native.Mathlib.Omega.{arith}
 use lib.Dec.{leb, ltb}
 use lib.ListN.{length, length-append, length-map}
 use borrow.Author.Tests.{ltb-true, leb-true, leb-false, le-leb, lt-ltb, le-ltb, not-true}
-use Rattle.lists.specs.Lists.{Each}
+use Rattle.lists.specs.Lists.{Each, everyBoth}
 use Rattle.lists.proofs.Tests.{and-true, and-both, bool-eq}
-use Rattle.lists.proofs.Lists.{each-append, each-map}
+use Rattle.lists.proofs.Lists.{each-append, each-map, some-few}
 use Rattle.policy.specs.Ranges.{Range, range, Region, Packet, within, inside, Whole, Within}
 use Rattle.policy.specs.Demands.{Piece}
 use Rattle.policy.specs.Cut.{meets, share, lowPart, highPart, shared, before, pieces, cut}
@@ -87,7 +87,7 @@ rest-fact x r s h =
     let w = and-true (within x r) (not (within x s)) h in
     (within-fact x r (w .0), within-not x s (not-true _ (w .1)))
 
-rest-true : (x : ℕ) (r s : Range) → r .low ≤ x → x ≤ r .high → (x < s .low) ⊎ (s .high < x) → (within x r && not (within x s)) ≡ true
+pub rest-true : (x : ℕ) (r s : Range) → r .low ≤ x → x ≤ r .high → (x < s .low) ⊎ (s .high < x) → (within x r && not (within x s)) ≡ true
 rest-true x r s h k o = and-both _ _ (within-true x r h k) (go (within x s) refl)
   where
     go : (b : Bool) → within x s ≡ b → not b ≡ true
@@ -128,7 +128,7 @@ unfolding hits
 hits-append p [] k = omega arith
 hits-append p (b ∷ l) k = let h = hits-append p l k in omega arith
 
-cond-zero : (u : Bool) → _≡_ {A = ℕ} 0 (cond u 0 0)
+pub cond-zero : (u : Bool) → _≡_ {A = ℕ} 0 (cond u 0 0)
 cond-zero true = refl
 cond-zero false = refl
 
@@ -185,7 +185,7 @@ join false ws true ia m n h = omega arith
 
 -- a packet is in exactly one piece if it is in d and not in a, and in none otherwise
 pieces-hits : (p : Packet) (d a : Region) → Whole a → share d a ≡ true → hits p (pieces d a) ≡ one (inside p d && not (inside p a))
-unfolding hits inside share pieces Whole
+unfolding hits inside everyBoth pieces Whole
 pieces-hits [] [] [] w e = refl
 pieces-hits (x ∷ p) [] [] w e = refl
 pieces-hits p [] (s ∷ a) w e = absurd (false≢true e)
@@ -202,7 +202,7 @@ within-self [] = tt
 within-self (r ∷ d) = (omega arith, omega arith, within-self d)
 
 pieces-inside : (d a : Region) → Whole d → Whole a → share d a ≡ true → Each (Piece d) (pieces d a)
-unfolding share pieces Whole Within Each
+unfolding everyBoth pieces Whole Within Each
 pieces-inside [] a u v e = tt
 pieces-inside (r ∷ d) [] u v e = tt
 pieces-inside (r ∷ d) (s ∷ a) u v e =
@@ -221,19 +221,21 @@ pieces-inside (r ∷ d) (s ∷ a) u v e =
     high true g m = let l = ltb-true (s .high) (r .high) g in (((omega arith, u .1), (omega arith, omega arith, within-self d)), tt)
 
 -- at most two pieces for each field
+pub pieces-length : (r s : Range) (d a : Region) → length (pieces (r ∷ d) (s ∷ a)) ≡ length (lowPart r s) + (length (highPart r s) + length (pieces d a))
+unfolding pieces
+pieces-length r s d a =
+    rw (length-append, length-append, length-map (lowPart r s) (before d), length-map (highPart r s) (before d), length-map (pieces d a) (_∷_ (shared r s)))
+
 pieces-few : (d a : Region) → length (pieces d a) ≤ 2 * length d
 unfolding pieces
 pieces-few [] a = omega arith
 pieces-few (r ∷ d) [] = omega arith
 pieces-few (r ∷ d) (s ∷ a) =
-    let f = short (ltb (r .low) (s .low)) (range (r .low) (s .low - 1)) in
-    let g = short (ltb (s .high) (r .high)) (range (s .high + 1) (r .high)) in
+    let e = pieces-length r s d a in
+    let f = some-few (ltb (r .low) (s .low)) (range (r .low) (s .low - 1)) 1 (λ t. omega arith) in
+    let g = some-few (ltb (s .high) (r .high)) (range (s .high + 1) (r .high)) 1 (λ t. omega arith) in
     let h = pieces-few d a in
-    rw (length-append, length-append, length-map (pieces d a) (_∷_ (shared r s))) (omega arith)
-  where
-    short : (t : Bool) (q : Range) → length (map (before d) (cond t (q ∷ []) [])) ≤ 1
-    short true q = omega arith
-    short false q = omega arith
+    omega arith
 
 -- a box less itself leaves nothing
 pieces-itself : (b : Region) → pieces b b ≡ []
@@ -241,9 +243,10 @@ unfolding pieces
 pieces-itself [] = refl
 pieces-itself (r ∷ b) = rw (le-ltb (r .low) (r .low) (omega arith), le-ltb (r .high) (r .high) (omega arith), pieces-itself b)
 
--- A packet that both boxes have is shared, and a box that is never empty shares packets with itself.
+-- A packet that both boxes have is shared; a packet of d is not in a where they share none; a box that is never empty shares
+-- packets with itself.
 pub share-of : (p : Packet) (d a : Region) → inside p d ≡ true → inside p a ≡ true → share d a ≡ true
-unfolding inside share
+unfolding inside everyBoth
 share-of [] [] [] h k = refl
 share-of [] [] (s ∷ a) h k = k
 share-of [] (r ∷ d) a h k = absurd (false≢true h)
@@ -256,42 +259,47 @@ share-of (x ∷ p) (r ∷ d) (s ∷ a) h k =
     let g = within-fact x s (v .0) in
     and-both (meets r s) (share d a) (and-both _ _ (le-leb (r .low) (s .high) (omega arith)) (le-leb (s .low) (r .high) (omega arith))) (share-of p d a (u .1) (v .1))
 
+pub none-of : (p : Packet) (d a : Region) → share d a ≡ false → inside p d ≡ true → inside p a ≡ false
+none-of p d a e h = go (inside p a) refl
+  where
+    go : (t : Bool) → inside p a ≡ t → t ≡ false
+    go true k = absurd (true≢false (sym (share-of p d a h k) ∙ e))
+    go false k = refl
+
 pub share-itself : (b : Region) → Whole b → share b b ≡ true
-unfolding share Whole
+unfolding everyBoth Whole
 share-itself [] w = refl
 share-itself (r ∷ b) w = rw (le-leb (r .low) (r .high) (w .0), share-itself b (w .1))
 
--- The same of `cut`.
-pub cut-hits : (p : Packet) (d a : Region) → Whole a → hits p (cut d a) ≡ one (inside p d && not (inside p a))
-unfolding cut hits
-cut-hits p d a w = go (share d a) refl
+-- What holds of the pieces where the boxes share a packet, and of d alone where they do not, holds of the cut.
+pub cut-cases : (P : List Region → Type 0) (d a : Region) → (share d a ≡ true → P (pieces d a)) → (share d a ≡ false → P (d ∷ [])) → P (cut d a)
+unfolding cut
+cut-cases P d a f g = go (share d a) refl
   where
-    single : (u v : Bool) → (u ≡ true → v ≡ true → ⊥) → one u + 0 ≡ one (u && not v)
-    single true true h = absurd (h refl refl)
-    single true false h = refl
+    go : (t : Bool) → share d a ≡ t → P (cond t (pieces d a) (d ∷ []))
+    go true e = f e
+    go false e = g e
+
+pub cut-hits : (p : Packet) (d a : Region) → Whole a → hits p (cut d a) ≡ one (inside p d && not (inside p a))
+unfolding hits
+cut-hits p d a w = cut-cases (λ (l : List Region). hits p l ≡ one (inside p d && not (inside p a))) d a (λ e. pieces-hits p d a w e) (λ e. single (inside p d) (inside p a) (λ h. none-of p d a e h))
+  where
+    single : (u v : Bool) → (u ≡ true → v ≡ false) → one u + 0 ≡ one (u && not v)
+    single true v h = rw (h refl)
     single false v h = refl
 
-    go : (t : Bool) → share d a ≡ t → hits p (cond t (pieces d a) (d ∷ [])) ≡ one (inside p d && not (inside p a))
-    go true e = pieces-hits p d a w e
-    go false e = single (inside p d) (inside p a) (λ h k. true≢false (sym (share-of p d a h k) ∙ e))
-
 pub cut-inside : (d a : Region) → Whole d → Whole a → Each (Piece d) (cut d a)
-unfolding cut Each
-cut-inside d a u v = go (share d a) refl
-  where
-    go : (t : Bool) → share d a ≡ t → Each (Piece d) (cond t (pieces d a) (d ∷ []))
-    go true e = pieces-inside d a u v e
-    go false e = ((u, within-self d), tt)
+unfolding Each
+cut-inside d a u v = cut-cases (Each (Piece d)) d a (λ e. pieces-inside d a u v e) (λ e. ((u, within-self d), tt))
 
 pub cut-few : (d a : Region) → length a ≡ length d → length (cut d a) ≤ 2 * length d
-unfolding cut share
-cut-few [] [] h = pieces-few [] []
-cut-few [] (s ∷ a) h = absurd (omega arith)
-cut-few (r ∷ d) a h = go (share (r ∷ d) a)
+unfolding everyBoth
+cut-few d a h = cut-cases (λ (l : List Region). length l ≤ 2 * length d) d a (λ e. pieces-few d a) (λ e. some d a h e)
   where
-    go : (t : Bool) → length (cond t (pieces (r ∷ d) a) ((r ∷ d) ∷ [])) ≤ 2 * suc (length d)
-    go true = pieces-few (r ∷ d) a
-    go false = omega arith
+    some : (d a : Region) → length a ≡ length d → share d a ≡ false → 1 ≤ 2 * length d
+    some [] [] h e = absurd (true≢false e)
+    some [] (s ∷ a) h e = absurd (omega arith)
+    some (r ∷ d) a h e = omega arith
 
 pub cut-itself : (b : Region) → Whole b → cut b b ≡ []
 unfolding cut

@@ -1,4 +1,4 @@
--- The theorems on first match, on a cut and on a group. Assumes nothing.
+-- The theorems on first match, on the pieces of a cut and on a group. Assumes nothing.
 use Rattle.policy.specs.Demands.{AboveTheorem, CutTheorem, GroupTheorem}
 use Rattle.policy.proofs.Cuts.{cut-inside, cut-few}
 use Rattle.policy.proofs.Moves.{above-from}

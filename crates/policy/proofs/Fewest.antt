@@ -1,20 +1,23 @@
--- No list of boxes that has exactly the packets of d without a is shorter than the cut. Field by field: the boxes that go on behind
--- the shared range's low end, one that has the packet just below the allow and one that has the packet just above it are different
--- boxes, since a box with two of these would have the corner that d and a share. Assumes nothing.
+-- A cut by a box without a common packet leaves the box whole; and no list of boxes that has exactly the packets of d without a is
+-- shorter than the cut. Field by field: the boxes that go on behind the shared range's low end, one that has the packet just below the
+-- allow and one that has the packet just above it are different boxes, since a box with two of these would have the corner that d and
+-- a share. Assumes nothing.
 use mathlib.Core.Path.{_≡_, refl, ap, sym, _∙_}
 use mathlib.Core.List.{List, [], _∷_}
-use mathlib.Core.Bool.{Bool, true, false, cond, _&&_, _||_, true≢false, false≢true}
-use Prim.Native.Nat.{ℕ, _+_, _-_, _≤_, max}
+use mathlib.Core.Bool.{Bool, true, false, cond, not, _&&_, _||_, true≢false, false≢true}
+use mathlib.Core.Logic.{_⊎_, inl, inr}
+use Prim.Native.Nat.{ℕ, _+_, _-_, _≤_, _<_, max}
 use native.Mathlib.Omega.{arith}
 use lib.Dec.{ltb}
-use lib.ListN.{length, length-append, length-map}
-use borrow.Author.Tests.{ltb-true}
+use lib.ListN.{length}
+use borrow.Author.Tests.{ltb-true, not-true}
+use Rattle.lists.specs.Lists.{everyBoth}
 use Rattle.lists.proofs.Tests.{and-true, and-both, or-false}
+use Rattle.lists.proofs.Lists.{some-few}
 use Rattle.policy.specs.Ranges.{Range, range, Region, Packet, within, inside, Whole}
-use Rattle.policy.specs.Cut.{meets, share, lowPart, highPart, shared, before, pieces, cut, anyHas}
+use Rattle.policy.specs.Cut.{meets, share, pieces, anyHas}
 use Rattle.policy.specs.Demands.{Left, WholeTheorem, FewestTheorem}
-use Rattle.policy.proofs.Cuts.{one, one-le, hits, within-fact, within-true, meets-fact, share-of, share-itself}
-use Rattle.policy.proofs.Rest.{cut-whole}
+use Rattle.policy.proofs.Cuts.{one, one-le, hits, within-fact, within-true, rest-true, meets-fact, pieces-length, none-of, share-itself, cut-cases}
 
 -- The low corner of what d and a share.
 corner : Region → Region → Packet
@@ -23,7 +26,7 @@ corner (r ∷ d) [] = []
 corner (r ∷ d) (s ∷ a) = max (r .low) (s .low) ∷ corner d a
 
 corner-inside : (d a : Region) → Whole d → Whole a → share d a ≡ true → (inside (corner d a) d ≡ true) × (inside (corner d a) a ≡ true)
-unfolding corner inside share Whole
+unfolding corner inside everyBoth Whole
 corner-inside [] [] u v e = (refl, refl)
 corner-inside [] (s ∷ a) u v e = absurd (false≢true e)
 corner-inside (r ∷ d) [] u v e = absurd (false≢true e)
@@ -91,19 +94,8 @@ module _ (x y z : ℕ) (c : Packet) (between : (q : Range) → within y q ≡ tr
       longer true = omega arith
       longer false = omega arith
 
-part-few : (t : Bool) (q : Range) (n : ℕ) → (t ≡ true → 1 ≤ n) → length (cond t (q ∷ []) []) ≤ n
-part-few true q n h = h refl
-part-few false q n h = omega arith
-
-outside : (x : ℕ) (s : Range) → ((s .low ≤ x) × (x ≤ s .high) → ⊥) → within x s ≡ false
-outside x s h = go (within x s) refl
-  where
-    go : (t : Bool) → within x s ≡ t → t ≡ false
-    go true e = absurd (h (within-fact x s e))
-    go false e = refl
-
 pieces-fewest : (d a : Region) → Whole d → Whole a → share d a ≡ true → (l : List Region) → Left d a l → length (pieces d a) ≤ length l
-unfolding share pieces Whole inside
+unfolding everyBoth pieces Whole inside
 pieces-fewest [] a u v e l exact = omega arith
 pieces-fewest (r ∷ d) [] u v e l exact = omega arith
 pieces-fewest (r ∷ d) (s ∷ a) u v e l exact =
@@ -117,41 +109,29 @@ pieces-fewest (r ∷ d) (s ∷ a) u v e l exact =
     let apart = spread x (s .low - 1) (s .high + 1) (corner d a)
     (λ q g h. let i = within-fact (s .low - 1) q g in let j = within-fact (s .high + 1) q h in within-true x q (omega (arith, v .0)) (omega (arith, v .0)))
     l (exact (x ∷ corner d a) ∙ rw (wr, ws, c .0, c .1)) in
-    let below = part-few (ltb (r .low) (s .low)) (range (r .low) (s .low - 1)) (hits ((s .low - 1) ∷ corner d a) l)
-    (λ g. let i = ltb-true (r .low) (s .low) g in
-    beside (s .low - 1) (within-true (s .low - 1) r (omega arith) (omega arith)) (outside (s .low - 1) s (λ h. omega arith)) (c .0)) in
-    let above = part-few (ltb (s .high) (r .high)) (range (s .high + 1) (r .high)) (hits ((s .high + 1) ∷ corner d a) l)
-    (λ g. let i = ltb-true (s .high) (r .high) g in
-    beside (s .high + 1) (within-true (s .high + 1) r (omega arith) (omega arith)) (outside (s .high + 1) s (λ h. omega arith)) (c .0)) in
-    rw (length-append, length-append, length-map (lowPart r s) (before d), length-map (highPart r s) (before d), length-map (pieces d a) (_∷_ (shared r s)))
-    (omega arith)
+    let below = some-few (ltb (r .low) (s .low)) (range (r .low) (s .low - 1)) (hits ((s .low - 1) ∷ corner d a) l)
+    (λ g. let i = ltb-true (r .low) (s .low) g in beside (s .low - 1) (omega arith) (omega arith) (inl (omega arith)) (c .0)) in
+    let above = some-few (ltb (s .high) (r .high)) (range (s .high + 1) (r .high)) (hits ((s .high + 1) ∷ corner d a) l)
+    (λ g. let i = ltb-true (s .high) (r .high) g in beside (s .high + 1) (omega arith) (omega arith) (inr (omega arith)) (c .0)) in
+    let n = pieces-length r s d a in
+    omega arith
   where
     -- A packet of d whose first value a has not is in some box.
-    beside : (x : ℕ) → within x r ≡ true → within x s ≡ false → inside (corner d a) d ≡ true → 1 ≤ hits (x ∷ corner d a) l
-    beside x g h c = has-hits (x ∷ corner d a) l (exact (x ∷ corner d a) ∙ rw (g, h, c))
+    beside : (x : ℕ) → r .low ≤ x → x ≤ r .high → (x < s .low) ⊎ (s .high < x) → inside (corner d a) d ≡ true → 1 ≤ hits (x ∷ corner d a) l
+    beside x g h o c =
+        let w = and-true (within x r) (not (within x s)) (rest-true x r s g h o) in
+        has-hits (x ∷ corner d a) l (exact (x ∷ corner d a) ∙ rw (w .0, not-true (within x s) (w .1), c))
 
 pub cut-fewest : FewestTheorem
-unfolding cut anyHas
-cut-fewest d a u v l exact = go (share d a) refl
+unfolding anyHas
+cut-fewest d a u v l exact =
+    cut-cases (λ (k : List Region). length k ≤ length l) d a (λ e. pieces-fewest d a u v e l exact)
+    (λ e. let p : Packet = corner d d in let h = corner-inside d d u u (share-itself d u) .0 in some p l (exact p ∙ rw (h, none-of p d a e h)))
   where
-    go : (t : Bool) → share d a ≡ t → length (cond t (pieces d a) (d ∷ [])) ≤ length l
-    go true e = pieces-fewest d a u v e l exact
-    go false e =
-        let p : Packet = corner d d in
-        let h = corner-inside d d u u (share-itself d u) .0 in
-        some p l (exact p ∙ rw (h, out p (inside p a) refl h))
-      where
-        out : (p : Packet) (t : Bool) → inside p a ≡ t → inside p d ≡ true → t ≡ false
-        out p true f g = absurd (true≢false (sym (share-of p d a g f) ∙ e))
-        out p false f g = refl
-
-        some : (p : Packet) (l : List Region) → anyHas p l ≡ true → 1 ≤ length l
-        some p [] h = absurd (false≢true h)
-        some p (b ∷ l) h = omega arith
+    some : (p : Packet) (l : List Region) → anyHas p l ≡ true → 1 ≤ length l
+    some p [] h = absurd (false≢true h)
+    some p (b ∷ l) h = omega arith
 
 pub cut-left-whole : WholeTheorem
-cut-left-whole d a u v none = go (share d a) refl
-  where
-    go : (t : Bool) → share d a ≡ t → cut d a ≡ d ∷ []
-    go true e = let c = corner-inside d a u v e in absurd (true≢false (sym (c .1) ∙ none (corner d a) (c .0)))
-    go false e = cut-whole d a e
+cut-left-whole d a u v none =
+    cut-cases (λ (l : List Region). l ≡ d ∷ []) d a (λ e. let c = corner-inside d a u v e in absurd (true≢false (sym (c .1) ∙ none (corner d a) (c .0)))) (λ e. refl)

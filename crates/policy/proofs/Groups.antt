@@ -14,7 +14,7 @@ use Rattle.lists.specs.Lists.{Each}
 use Rattle.lists.proofs.Lists.{each-append, each-imp}
 use Rattle.policy.specs.Move.{over}
 use Rattle.policy.specs.Demands.{Piece, Apart}
-use Rattle.policy.proofs.Cuts.{one, one-le, hits, hits-append, cut-hits, cut-inside, within-self}
+use Rattle.policy.proofs.Cuts.{one, one-le, hits, hits-append, cond-zero, cut-hits, cut-inside, within-self}
 
 hit : (p : Packet) (l : List Region) (i : ℕ) → i < length l → inside p (getD l i []) ≡ true → 1 ≤ hits p l
 unfolding hits
@@ -63,11 +63,7 @@ cut-covers d a w p = any-once p (cut d a) (inside p d && not (inside p a)) (cut-
 -- the group
 cutEach-hits : (p : Packet) (ds : List Region) (a : Region) → Whole a → hits p (cutEach ds a) ≡ cond (inside p a) 0 (hits p ds)
 unfolding hits cutEach
-cutEach-hits p [] a w = go (inside p a)
-  where
-    go : (t : Bool) → _≡_ {A = ℕ} 0 (cond t 0 0)
-    go true = refl
-    go false = refl
+cutEach-hits p [] a w = cond-zero (inside p a)
 cutEach-hits p (d ∷ ds) a w =
     rw (hits-append p (cut d a) (cutEach ds a), cutEach-hits p ds a w, cut-hits p d a w) (go (inside p d) (inside p a) (hits p ds))
   where

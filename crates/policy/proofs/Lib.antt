@@ -4,7 +4,6 @@ pub mod Numbers
 pub mod Values
 pub mod Cuts
 pub mod Rest
-pub mod Shares
 pub mod Groups
 pub mod Fewest
 pub mod Moves

@@ -7,11 +7,11 @@ use Prim.Native.Nat.{ℕ, suc, _+_}
 use native.Mathlib.Omega.{arith}
 use lib.Dec.{leb, eqb}
 use borrow.Author.Tests.{leb-true, eqb-true, not-false}
-use Rattle.lists.specs.Lists.{Each}
+use Rattle.lists.specs.Lists.{Each, everyBoth}
 use Rattle.lists.proofs.Tests.{and-true, and-both, or-assoc}
 use Rattle.lists.proofs.Lists.{each-append}
 use Rattle.policy.specs.Fields.{highest}
-use Rattle.policy.specs.Ranges.{range, Region, Packet, within, inside, Whole, everyField, properRange, proper, fullRange, isFull, fullOver}
+use Rattle.policy.specs.Ranges.{range, Region, Packet, within, inside, Whole, properRange, proper, fullRange, isFull, fullOver}
 use Rattle.policy.specs.Rules.{Rule, isAllow, sound, Found, found, nothing, firstFrom, first, saysAllow, saysDrop, allows, drops, inLimits, forwards, complete}
 use Rattle.policy.specs.Cut.{group, anyHas}
 use Rattle.policy.specs.Refusals.{given, faults}
@@ -43,7 +43,7 @@ faults-cons r l h =
     (not-false (sound r) (given-zero (not (sound r)) 3 (f .0)), f .1)
 
 pub proper-whole : (hs : List ℕ) (b : Region) → proper hs b ≡ true → Whole b
-unfolding everyField Whole
+unfolding everyBoth Whole
 proper-whole [] [] h = tt
 proper-whole [] (r ∷ b) h = absurd (false≢true h)
 proper-whole (x ∷ hs) [] h = tt
@@ -53,7 +53,7 @@ proper-whole (x ∷ hs) (r ∷ b) h =
     (leb-true (r .low) (r .high) (g .0), proper-whole hs b (f .1))
 
 pub proper-inside : (hs : List ℕ) (p : Packet) (b : Region) → proper hs b ≡ true → inside p b ≡ true → inside p (fullOver hs) ≡ true
-unfolding everyField inside fullOver
+unfolding everyBoth inside fullOver
 proper-inside [] p [] h k = k
 proper-inside [] p (r ∷ b) h k = absurd (false≢true h)
 proper-inside (x ∷ hs) p [] h k = absurd (false≢true h)
@@ -66,7 +66,7 @@ proper-inside (x ∷ hs) (v ∷ p) (r ∷ b) h k =
     and-both (within v (range 0 x)) (inside p (fullOver hs)) (within-true v (range 0 x) (omega arith) (omega arith)) (proper-inside hs p b (f .1) (w .1))
 
 pub full-eq : (hs : List ℕ) (b : Region) → isFull hs b ≡ true → b ≡ fullOver hs
-unfolding everyField fullOver
+unfolding everyBoth fullOver
 full-eq [] [] h = refl
 full-eq [] (r ∷ b) h = absurd (false≢true h)
 full-eq (x ∷ hs) [] h = absurd (false≢true h)

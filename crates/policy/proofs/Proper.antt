@@ -6,11 +6,11 @@ use Prim.Native.Nat.{ℕ}
 use native.Mathlib.Omega.{arith}
 use lib.Dec.{leb}
 use borrow.Author.Tests.{leb-true, le-leb}
-use Rattle.lists.specs.Lists.{Each}
+use Rattle.lists.specs.Lists.{Each, everyBoth}
 use Rattle.lists.proofs.Tests.{and-true, and-both}
 use Rattle.lists.proofs.Lists.{each-append, each-imp}
 use Rattle.policy.specs.Fields.{highest}
-use Rattle.policy.specs.Ranges.{Region, Whole, Within, everyField, properRange, proper}
+use Rattle.policy.specs.Ranges.{Region, Whole, Within, properRange, proper}
 use Rattle.policy.specs.Rules.{Rule, isAllow, Proper}
 use Rattle.policy.specs.Cut.{group}
 use Rattle.policy.specs.Refusals.{faults}
@@ -21,7 +21,7 @@ use Rattle.policy.proofs.Moves.{faults-cons, rule-proper, proper-whole}
 
 -- a piece of a proper box is proper
 pub proper-piece : (hs : List ℕ) (d b : Region) → proper hs d ≡ true → Piece d b → proper hs b ≡ true
-unfolding everyField Whole Within
+unfolding everyBoth Whole Within
 proper-piece [] [] [] h p = refl
 proper-piece [] [] (r ∷ b) h p = absurd (p .1)
 proper-piece [] (s ∷ d) b h p = absurd (false≢true h)

@@ -1,15 +1,13 @@
 -- Laws on the reading of a box as a list of ranges. Assumes nothing.
-use mathlib.Core.Path.{_≡_, refl, ap, sym, _∙_}
+use mathlib.Core.Path.{_≡_, refl, ap}
 use mathlib.Core.List.{List, [], _∷_}
-use mathlib.Core.Bool.{Bool, true, false, cond, not, _&&_}
+use mathlib.Core.Bool.{Bool, true, false, cond}
 use Prim.Native.Nat.{ℕ, zero, suc, _+_, _<_, _≤_}
 use native.Mathlib.Omega.{arith}
-use native.Mathlib.Numerals.{add-one}
 use lib.Dec.{ltb}
-use lib.ListN.{length, getD, set, drop, drop-of-length-le}
-use lib.Seq.{drop-cons}
-use borrow.Author.Tests.{ltb-true, ltb-false, lt-ltb, le-ltb, not-true, not-false}
-use Rattle.policy.specs.Ranges.{Range, range, Region, everyField}
+use lib.ListN.{length, getD, set}
+use borrow.Author.Tests.{ltb-true, ltb-false, lt-ltb, le-ltb}
+use Rattle.policy.specs.Ranges.{range, Region}
 use Rattle.policy.specs.Values.{ranges}
 use Rattle.policy.specs.Steps.{rangeAt}
 
@@ -35,25 +33,9 @@ ranges-at (x ∷ ls) [] k e = absurd (omega arith)
 ranges-at (x ∷ ls) (y ∷ hs) zero e = refl
 ranges-at (x ∷ ls) (y ∷ hs) (suc k) e = ranges-at ls hs k (omega arith)
 
--- A loop over the fields: what it knows at field k of a test of every field.
-module _ (f : ℕ → Range → Bool) (hs : List ℕ) (b : Region) (k : ℕ) (same : everyField f hs b ≡ everyField f (drop k hs) (drop k b)) where
-  module _ (u : k < length hs) (v : k < length b) {l h : ℕ} (low : l ≡ rangeAt b k .low) (high : h ≡ rangeAt b k .high) {t : Bool} (test : t ≡ f (getD hs k 0) (range l h)) where
-    field-step : everyField f hs b ≡ (t && everyField f (drop (k + 1) hs) (drop (k + 1) b))
-    unfolding everyField
-    field-step =
-        same
-        ∙ rw (add-one, drop-cons hs k 0 u, drop-cons b k (range 0 0) v)
-        (ap (λ (x : Bool). x && everyField f (drop (suc k) hs) (drop (suc k) b)) (sym (test ∙ (λ i. f (getD hs k 0) (range (low i) (high i))))))
-
-    pub field-fails : not t ≡ true → false ≡ everyField f hs b
-    field-fails e = sym (field-step ∙ rw (not-true t e))
-
-    pub field-passes : not t ≡ false → everyField f hs b ≡ everyField f (drop (k + 1) hs) (drop (k + 1) b)
-    field-passes e = field-step ∙ rw (not-false t e)
-
-  pub fields-done : length hs ≤ k → length b ≤ k → true ≡ everyField f hs b
-  unfolding everyField
-  fields-done u v = sym (same ∙ rw (drop-of-length-le hs u, drop-of-length-le b v))
+-- The range whose ends were read at field k.
+pub range-read : (b : Region) (k : ℕ) {l h : ℕ} → l ≡ rangeAt b k .low → h ≡ rangeAt b k .high → range l h ≡ rangeAt b k
+range-read b k low high = λ i. range (low i) (high i)
 
 -- A walk over the fields that puts something new at field k: what it has when it comes to field j.
 module _ {A : Type 0} (k j : ℕ) (new old : A) where

@@ -1,20 +1,18 @@
 -- Cutting one box from another, and the group of a deny rule (01, Cutting one box from another; 02, W2). Assumes nothing.
 use mathlib.Core.List.{List, [], _∷_, _++_, map}
-use mathlib.Core.Bool.{Bool, true, false, cond, _&&_, _||_}
+use mathlib.Core.Bool.{Bool, false, cond, _&&_, _||_}
 use Prim.Native.Nat.{_+_, _-_, min, max}
 use lib.Dec.{leb, ltb}
+use Rattle.lists.specs.Lists.{everyBoth}
 use Rattle.policy.specs.Ranges.{Range, range, Region, Packet, inside}
 
 -- The ranges, neither of them empty, have a value in common.
 abbrev pub meets : Range → Range → Bool
 meets r s = leb (r .low) (s .high) && leb (s .low) (r .high)
 
--- The boxes, neither of them empty, have a packet in common: in each of as many fields a value that both have.
-unfoldable pub share : Region → Region → Bool
-share [] [] = true
-share [] (s ∷ a) = false
-share (r ∷ d) [] = false
-share (r ∷ d) (s ∷ a) = meets r s && share d a
+-- The boxes, neither of them empty, have a packet in common: they have as many fields, and in each a value that is in both.
+abbrev pub share : Region → Region → Bool
+share d a = everyBoth meets d a
 
 -- The part of r below s, if any; the part above s, if any; the range that both share.
 abbrev pub lowPart : Range → Range → List Range
@@ -31,7 +29,8 @@ abbrev pub before : Region → Range → Region
 before d r = r ∷ d
 
 -- The printed algorithm for boxes that share a packet, field by field: the low part and the high part with d's later fields,
--- then what the later fields leave behind the shared range. The pieces stand in the order in which they are made.
+-- then what the later fields leave behind the shared range. The pieces stand in the order in which they are made. (Of boxes that
+-- share none it says nothing of use, and `cut` does not ask it.)
 unfoldable pub pieces : Region → Region → List Region
 pieces [] a = []
 pieces (r ∷ d) [] = []

@@ -3,6 +3,7 @@ use mathlib.Core.List.{List, [], _∷_}
 use mathlib.Core.Bool.{Bool, true, false, _&&_}
 use Prim.Native.Nat.{ℕ, _≤_}
 use lib.Dec.{leb, eqb}
+use Rattle.lists.specs.Lists.{everyBoth}
 
 -- Both ends belong to a range.
 pub record Range : Type 0 where
@@ -41,26 +42,19 @@ Within [] (s ∷ d) = ⊥
 Within (r ∷ b) [] = ⊥
 Within (r ∷ b) (s ∷ d) = (s .low ≤ r .low) × (r .high ≤ s .high) × Within b d
 
--- A test of every field against the field's highest value; there are as many ranges as fields.
-unfoldable pub everyField : (ℕ → Range → Bool) → List ℕ → Region → Bool
-everyField f [] [] = true
-everyField f [] (r ∷ b) = false
-everyField f (h ∷ hs) [] = false
-everyField f (h ∷ hs) (r ∷ b) = f h r && everyField f hs b
-
--- No low above its high, and no high above the field's highest.
+-- A box by its fields' highest values, as many as it has ranges: no low is above its high, and no high above its field's highest.
 abbrev pub properRange : ℕ → Range → Bool
 properRange h r = leb (r .low) (r .high) && leb (r .high) h
 
 abbrev pub proper : List ℕ → Region → Bool
-proper hs b = everyField properRange hs b
+proper hs b = everyBoth properRange hs b
 
 -- A range is full if it has every value of its field; a box, if all its ranges are.
 abbrev pub fullRange : ℕ → Range → Bool
 fullRange h r = eqb (r .low) 0 && eqb (r .high) h
 
 abbrev pub isFull : List ℕ → Region → Bool
-isFull hs b = everyField fullRange hs b
+isFull hs b = everyBoth fullRange hs b
 
 unfoldable pub fullOver : List ℕ → Region
 fullOver [] = []

@@ -6,7 +6,7 @@ ghost use lib.ListN.{length, getD, set};
 ghost use Rattle.policy.specs.Fields.{fields, highest};
 ghost use Rattle.policy.specs.Ranges.{range, properRange, proper, fullRange, isFull};
 ghost use Rattle.policy.specs.Rules.{sound};
-ghost use Rattle.policy.specs.Cut.{share};
+ghost use Rattle.policy.specs.Cut.{meets, share};
 ghost use Rattle.policy.specs.Refusals.{numberOf, refusalBase};
 ghost use Rattle.policy.specs.Values.{regionOf, ruleOf};
 ghost use Rattle.policy.specs.Steps.{rangeAt};
@@ -113,6 +113,16 @@ fn is_full_range(low: u32, high: u32, most: u32) -> bool
     high == most
 }
 
+// Whether the ranges, neither of them empty, have a value in common.
+fn ranges_meet(low: u32, high: u32, from: u32, to: u32) -> bool
+    ensures { λ r. ⌜ r ≡ meets (range low high) (range from to) ⌝ }
+{
+    if to < low {
+        return false;
+    }
+    from <= high
+}
+
 fn value_at(values: [u32; FIELDS], k: usize) -> u32
     requires { ⌜ k < fields ⌝ }
     ensures { λ r. ⌜ r ≡ getD values k 0 ⌝ }
@@ -187,14 +197,7 @@ impl Box {
     {
         let mut k: usize = 0;
         while k < FIELDS {
-            let low = self.low_at(k);
-            let high = self.high_at(k);
-            let from = a.low_at(k);
-            let to = a.high_at(k);
-            if to < low {
-                return false;
-            }
-            if high < from {
+            if !ranges_meet(self.low_at(k), self.high_at(k), a.low_at(k), a.high_at(k)) {
                 return false;
             }
             k += 1;

@@ -2,7 +2,8 @@
 use mathlib.Core.Path.{_≡_, refl}
 use mathlib.Core.List.{[], _∷_}
 use Rattle.policy.specs.Fields.{highest}
-use Rattle.policy.specs.Ranges.{inside, fullOver, everyField}
+use Rattle.lists.specs.Lists.{everyBoth}
+use Rattle.policy.specs.Ranges.{inside, fullOver}
 use Rattle.policy.specs.Rules.{full, rule, sound}
 use Rattle.policy.specs.Refusals.{accepted}
 use Rattle.filter.specs.Lookup.{hit, lookFrom}
@@ -10,5 +11,5 @@ use Rattle.filter.proofs.Examples.{zeros, bad}
 use Rattle.table.specs.Table.{lookupTable}
 
 pub table-bad-behind : lookupTable 2 zeros (rule full 1 ∷ bad ∷ []) ≡ accepted (hit 0 1)
-unfolding lookupTable lookFrom sound inside highest fullOver everyField
+unfolding lookupTable lookFrom sound inside highest fullOver everyBoth
 table-bad-behind = refl

@@ -9,10 +9,10 @@ use lib.Dec.{eqb, leb}
 use lib.ListN.{length, getD, drop, take, length-append, length-drop}
 use lib.Seq.{take-at, drop-at, take-add, drop-drop, length-take-le, take-append-le, drop-append-le}
 use borrow.Author.Tests.{eqb-true, leb-true}
-use Rattle.lists.specs.Lists.{Each, every}
+use Rattle.lists.specs.Lists.{Each, every, everyBoth}
 use Rattle.lists.proofs.Tests.{and-true}
 use Rattle.policy.specs.Fields.{Field, fieldTable, widths, highest, sizeOf, boxSize, actionSize, recordSize}
-use Rattle.policy.specs.Ranges.{Region, everyField, properRange, proper}
+use Rattle.policy.specs.Ranges.{Region, properRange, proper}
 use Rattle.policy.specs.Rules.{Rule, sound}
 use Rattle.policy.proofs.Moves.{rule-proper}
 use Rattle.wire.specs.Numbers.{numberBytes, numberIn, Byte}
@@ -21,16 +21,13 @@ use Rattle.wire.proofs.Numbers.{numberBytes-length, number-back, number
 use Rattle.wire.proofs.Items.{Items, items-written-length, items-read-length, items-back, items-written-back, items-front, items-from, item-at}
 
 -- Ranges in any widths.
-pub front-length : (ws : List ℕ) (b : Region) → length ws ≤ length b → length (rangesBytes ws b) ≡ sizeOf ws
+pub rangesBytes-length : (ws : List ℕ) (b : Region) → length ws ≤ length b → length (rangesBytes ws b) ≡ sizeOf ws
 unfolding rangesBytes
-front-length [] b h = refl
-front-length (w ∷ ws) [] h = absurd (omega arith)
-front-length (w ∷ ws) (r ∷ b) h =
-    let i = front-length ws b (omega arith) in
+rangesBytes-length [] b h = refl
+rangesBytes-length (w ∷ ws) [] h = absurd (omega arith)
+rangesBytes-length (w ∷ ws) (r ∷ b) h =
+    let i = rangesBytes-length ws b (omega arith) in
     rw (length-append, length-append, numberBytes-length, numberBytes-length) (omega arith)
-
-pub rangesBytes-length : (ws : List ℕ) (b : Region) → length b ≡ length ws → length (rangesBytes ws b) ≡ sizeOf ws
-rangesBytes-length ws b h = front-length ws b (omega arith)
 
 -- The bytes of the first n fields, and of those behind them.
 pub ranges-split : (n : ℕ) (ws : List ℕ) (b : Region) → rangesBytes ws b ≡ rangesBytes (take n ws) b ++ rangesBytes (drop n ws) (drop n b)
@@ -101,7 +98,7 @@ abbrev widthOf : Field → ℕ
 widthOf f = f .width
 
 rows-fit : (t : List Field) (b : Region) → every exact t ≡ true → proper (map highestOf t) b ≡ true → Fits (map widthOf t) b
-unfolding every everyField Fits
+unfolding every everyBoth Fits
 rows-fit [] [] e h = tt
 rows-fit [] (r ∷ b) e h = absurd (false≢true h)
 rows-fit (f ∷ t) [] e h = absurd (false≢true h)
@@ -149,7 +146,7 @@ ruleIn-fits s h b = (
 )
 
 pub boxBytes-length : (b : Region) → Fits widths b → length (boxBytes b) ≡ boxSize
-boxBytes-length b h = rangesBytes-length widths b (fits-length widths b h)
+boxBytes-length b h = rangesBytes-length widths b (omega (arith, fits-length widths b h))
 
 pub box-back : (b : Region) (rest : List ℕ) → Fits widths b → boxIn (boxBytes b ++ rest) ≡ b
 box-back b rest h = ranges-back widths b rest h

@@ -2,11 +2,11 @@
 use mathlib.Core.Path.{_≡_, refl, ap, sym, _∙_}
 use mathlib.Core.List.{List, [], _∷_, _++_, append-assoc, append-nil}
 use mathlib.Core.Bool.{true}
-use Prim.Native.Nat.{ℕ, zero, suc, _+_, _<_, _≤_, min}
+use Prim.Native.Nat.{ℕ, _+_, _<_, _≤_, min}
 use native.Mathlib.Omega.{arith}
 use native.Mathlib.Numerals.{add-one}
 use lib.ListN.{length, getD, set, drop, take, length-take, drop-of-length-le}
-use lib.Seq.{sets, take-all, drop-cons, drop-drop, take-suc-set}
+use lib.Seq.{sets, take-all, drop-cons, drop-drop, take-suc-set, getD-take}
 use Rattle.lists.specs.Lists.{every}
 use Rattle.lists.proofs.Lists.{sets-append, every-at}
 use Rattle.policy.specs.Fields.{fields, widths, sizeOf, boxSize, actionSize}
@@ -64,42 +64,24 @@ module _ (ws : List ℕ) (k : ℕ) (fits : k < length ws) where
   read-next s low high p l h whole e g el eh inv =
       rw (ranges-next low high k l h e g, append-assoc, el, eh) (rw (read-step s p) at inv)
 
-  write-next : (out low high : List ℕ) (p : ℕ) (whole : List ℕ) → length low ≡ length high → k < length low
-      → sets out p (rangesBytes (drop k ws) (drop k (ranges low high))) ≡ whole
-      → sets (sets (sets out p (numberBytes (getD ws k 0) (getD low k 0))) (p + getD ws k 0) (numberBytes (getD ws k 0) (getD high k 0))) (p + getD ws k 0 + getD ws k 0)
-      (rangesBytes (drop (k + 1) ws) (drop (k + 1) (ranges low high))) ≡ whole
-  write-next out low high p whole e g inv =
-      let w : ℕ = getD ws k 0 in
-      let b : Region = ranges low high in
-      let g′ : k < length b = omega (arith, ranges-length low high e) in
-      let h : sets out p (numberBytes w (getD low k 0) ++ (numberBytes w (getD high k 0) ++ rangesBytes (drop (k + 1) ws) (drop (k + 1) b))) ≡ whole =
-      rw (write-step b g′, ranges-at low high k e) at inv in
-      rw (sets-append, numberBytes-length, sets-append, numberBytes-length) at h
-
 pub read-last : (ws s low high : List ℕ) (p k : ℕ) (whole : Region) → length ws ≤ k → length low ≤ k → length high ≤ k
     → ranges (take k low) (take k high) ++ rangesIn (drop k ws) (drop p s) ≡ whole → ranges low high ≡ whole
 unfolding rangesIn
 read-last ws s low high p k whole e l h inv = rw (take-all k low l, take-all k high h, drop-of-length-le ws e, append-nil) at inv
 
-write-last : (ws out low high : List ℕ) (p k : ℕ) (whole : List ℕ) → length ws ≤ k
-    → sets out p (rangesBytes (drop k ws) (drop k (ranges low high))) ≡ whole → out ≡ whole
-unfolding rangesBytes
-write-last ws out low high p k whole e inv = rw (drop-of-length-le ws e) at inv
-
--- The same where only the first n fields are written.
-width-taken : (ws : List ℕ) (n k : ℕ) → k < n → getD (take n ws) k 0 ≡ getD ws k 0
-width-taken ws zero k h = absurd (omega arith)
-width-taken [] (suc n) k h = refl
-width-taken (w ∷ ws) (suc n) zero h = refl
-width-taken (w ∷ ws) (suc n) (suc k) h = width-taken ws n k (omega arith)
-
+-- Writing, where only the first n fields are written.
 module _ (n k : ℕ) (out low high : List ℕ) (p : ℕ) (whole : List ℕ) (inv : sets out p (rangesBytes (drop k (take n widths)) (drop k (ranges low high))) ≡ whole) where
   pub fields-next : k < n → k < fields → length low ≡ length high → k < length low
       → sets (sets (sets out p (numberBytes (getD widths k 0) (getD low k 0))) (p + getD widths k 0) (numberBytes (getD widths k 0) (getD high k 0))) (p + getD widths k 0 + getD widths k 0)
       (rangesBytes (drop (k + 1) (take n widths)) (drop (k + 1) (ranges low high))) ≡ whole
   fields-next h t e g =
-      let l : k < length (take n widths) = omega (arith, length-take n widths) in
-      rw (width-taken widths n k h) at (write-next (take n widths) k l out low high p whole e g inv)
+      let w : ℕ = getD widths k 0 in
+      let b : Region = ranges low high in
+      let f : k < length (take n widths) = omega (arith, length-take n widths) in
+      let g′ : k < length b = omega (arith, ranges-length low high e) in
+      let v : sets out p (numberBytes w (getD low k 0) ++ (numberBytes w (getD high k 0) ++ rangesBytes (drop (k + 1) (take n widths)) (drop (k + 1) b))) ≡ whole =
+      rw (write-step (take n widths) k f b g′, getD-take n widths k 0 h, ranges-at low high k e) at inv in
+      rw (sets-append, numberBytes-length, sets-append, numberBytes-length) at v
 
   pub fields-past : n ≤ k → (q : ℕ) → sets out q (rangesBytes (drop (k + 1) (take n widths)) (drop (k + 1) (ranges low high))) ≡ whole
   unfolding rangesBytes
@@ -109,7 +91,10 @@ module _ (n k : ℕ) (out low high : List ℕ) (p : ℕ) (whole : List ℕ) (inv
       rw (drop-of-length-le (take n widths) m) (rw (drop-of-length-le (take n widths) l) at inv)
 
   pub fields-last : fields ≤ k → out ≡ whole
-  fields-last h = write-last (take n widths) out low high p k whole (omega (arith, length-take n widths)) inv
+  unfolding rangesBytes
+  fields-last h =
+      let l : length (take n widths) ≤ k = omega (arith, length-take n widths) in
+      rw (drop-of-length-le (take n widths) l) at inv
 
 -- A record is its box and, behind it, its action.
 pub rule-read : (s : List ℕ) (at : ℕ) (b : Region) (a : ℕ) → b ≡ boxIn (drop at s) → a ≡ numberIn (take actionSize (drop (at + boxSize) s))
@@ -121,4 +106,4 @@ pub rule-put : (out boxed last : List ℕ) (at : ℕ) (r : Rule) → length (r .
     → last ≡ sets boxed (at + boxSize) (numberBytes actionSize (r .action)) → last ≡ sets out at (recordBytes r)
 unfolding recordBytes
 rule-put out boxed last at r e u v =
-    rw (sets-append out at (boxBytes (r .region)) (numberBytes actionSize (r .action)), rangesBytes-length widths (r .region) e, ← u) v
+    rw (sets-append out at (boxBytes (r .region)) (numberBytes actionSize (r .action)), rangesBytes-length widths (r .region) (omega arith), ← u) v

@@ -1,13 +1,14 @@
 -- `Box::is_proper` meets its contract: the loop's invariant says what is left of the test of every field. Assumes nothing.
 use borrow.Author.Needs.{needs}
 use native.Mathlib.Omega.{arith}
-use mathlib.Core.Path.{_≡_, refl, _∙_}
+use mathlib.Core.Path.{_≡_, refl, ap, _∙_}
 use Prim.Native.Nat.{_-_, _≤_}
-use lib.ListN.{length, drop}
+use lib.ListN.{length, getD, drop}
 use Rattle.policy.specs.Fields.{fields, highest}
-use Rattle.policy.specs.Ranges.{properRange, proper}
+use Rattle.policy.specs.Ranges.{range, properRange, proper}
 use Rattle.policy.specs.Values.{regionOf}
-use Rattle.policy.proofs.Values.{ranges-length, field-fails, field-passes, fields-done}
+use Rattle.lists.proofs.Both.{both-fails, both-passes, both-done}
+use Rattle.policy.proofs.Values.{ranges-length, range-read}
 use Rattle.policy.proofs.Box.is_proper.Statement.{statement}
 use Rattle.policy.proofs.Box.is_proper.Tie as tie
 
@@ -46,7 +47,7 @@ unfolding highest
 returns c =
     let s = c .before .before .before .before .before .loop in
     let b = regionOf (c .before .before .before .before .before .before .args .self) in
-    field-fails properRange highest b (s .k) (s .inv .2) (omega arith) (omega arith) (c .before .before .before .low-at .ensures .0) (c .before .before .high-at .ensures .0) (c .before .is-proper-range .ensures) (c .if1 .taken)
+    both-fails properRange highest b (s .k) (s .inv .2) 0 (range 0 0) (omega arith) (omega arith) (c .before .is-proper-range .ensures ∙ ap (properRange (getD highest (s .k) 0)) (range-read b (s .k) (c .before .before .before .low-at .ensures .0) (c .before .before .high-at .ensures .0))) (c .if1 .taken)
 
 add-k : tie.Need-add-k Inv-loop μ-loop
 add-k c = search needs
@@ -61,14 +62,14 @@ loop-again c =
     let b = regionOf (c .before .before .before .before .before .before .args .self) in (
       omega arith,
       s .inv .1,
-      field-passes properRange highest b (s .k) (s .inv .2) (omega arith) (omega arith) (c .before .before .before .low-at .ensures .0) (c .before .before .high-at .ensures .0) (c .before .is-proper-range .ensures) (c .if1 .left),
+      both-passes properRange highest b (s .k) (s .inv .2) 0 (range 0 0) (omega arith) (omega arith) (c .before .is-proper-range .ensures ∙ ap (properRange (getD highest (s .k) 0)) (range-read b (s .k) (c .before .before .before .low-at .ensures .0) (c .before .before .high-at .ensures .0))) (c .if1 .left),
     )
 
 returns-2 : tie.Need-returns-2 Inv-loop μ-loop
 unfolding highest
 returns-2 c =
     let s = c .before .loop in
-    fields-done properRange highest (regionOf (c .before .before .args .self)) (s .k) (s .inv .2) (omega arith) (omega arith)
+    both-done properRange highest (regionOf (c .before .before .args .self)) (s .k) (s .inv .2) (omega arith) (omega arith)
 
 pub is-proper-spec : {M : Type 1} → statement M
 is-proper-spec =

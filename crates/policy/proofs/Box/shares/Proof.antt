@@ -1,29 +1,35 @@
--- `Box::shares` meets its contract: the loop's invariant says that the fields before k share a value each. Assumes nothing.
+-- `Box::shares` meets its contract: the loop's invariant says what is left of the test of every field. Assumes nothing.
 use borrow.Author.Needs.{needs}
-use mathlib.Core.Path.{_≡_, _∙_}
-use Prim.Native.Nat.{_-_}
-use lib.ListN.{length}
+use native.Mathlib.Omega.{arith}
+use mathlib.Core.Path.{_≡_, refl, ap₂, _∙_}
+use Prim.Native.Nat.{_-_, _≤_}
+use lib.ListN.{length, drop}
+use Rattle.lists.proofs.Both.{both-fails, both-passes, both-done}
 use Rattle.policy.specs.Fields.{fields}
+use Rattle.policy.specs.Ranges.{range}
+use Rattle.policy.specs.Cut.{meets, share}
 use Rattle.policy.specs.Values.{regionOf}
-use Rattle.policy.proofs.Values.{ranges-length}
-use Rattle.policy.proofs.Shares.{Sharing, sharing-first, sharing-above, sharing-below, sharing-next, sharing-all}
+use Rattle.policy.proofs.Values.{ranges-length, range-read}
 use Rattle.policy.proofs.Box.shares.Statement.{statement}
 use Rattle.policy.proofs.Box.shares.Tie as tie
 
 abbrev Inv-loop : tie.InvT-loop
-Inv-loop self a k₀ k = Sharing (regionOf self) (regionOf a) k
+Inv-loop self a k₀ k =
+    (k ≤ fields) × (length (regionOf self) ≡ fields) × (length (regionOf a) ≡ fields)
+    × (share (regionOf self) (regionOf a) ≡ share (drop k (regionOf self)) (drop k (regionOf a)))
 
 abbrev μ-loop : tie.MeasureT-loop
 μ-loop self a k₀ k = fields - k
 
 loop-holds : tie.Need-loop-holds Inv-loop μ-loop
 loop-holds c =
-    let a = c .args in
-    let l : length (a .self .low) ≡ fields = search needs in
-    let h : length (a .self .high) ≡ fields = search needs in
-    let l′ : length (a .a .low) ≡ fields = search needs in
-    let h′ : length (a .a .high) ≡ fields = search needs in
-    sharing-first (regionOf (a .self)) (regionOf (a .a)) (ranges-length (a .self .low) (a .self .high) (cc) ∙ l) (ranges-length (a .a .low) (a .a .high) (cc) ∙ l′)
+    let d = c .args .self in
+    let a = c .args .a in
+    let l : length (d .low) ≡ fields = search needs in
+    let h : length (d .high) ≡ fields = search needs in
+    let l′ : length (a .low) ≡ fields = search needs in
+    let h′ : length (a .high) ≡ fields = search needs in
+    (search needs, ranges-length (d .low) (d .high) (cc) ∙ l, ranges-length (a .low) (a .high) (cc) ∙ l′, refl)
 
 low-at-requires : tie.Need-low-at-requires Inv-loop μ-loop
 low-at-requires c κs = search needs
@@ -37,11 +43,19 @@ low-at-requires-2 c κs = search needs
 high-at-requires-2 : tie.Need-high-at-requires-2 Inv-loop μ-loop
 high-at-requires-2 c κs = search needs
 
-returns : tie.Need-returns Inv-loop μ-loop
-returns c = sharing-above (c .before .before .before .before .before .before .loop .inv) (c .before .before .before .before .before .loop-test .taken) (c .before .before .before .before .low-at .ensures .0) (c .before .before .before .high-at .ensures .0) (c .before .before .low-at2 .ensures .0) (c .before .high-at2 .ensures .0) (c .if1 .taken)
+ranges-meet-requires : tie.Need-ranges-meet-requires Inv-loop μ-loop
+ranges-meet-requires c κs = search needs
 
-returns-2 : tie.Need-returns-2 Inv-loop μ-loop
-returns-2 c = sharing-below (c .before .before .before .before .before .before .before .loop .inv) (c .before .before .before .before .before .before .loop-test .taken) (c .before .before .before .before .before .low-at .ensures .0) (c .before .before .before .before .high-at .ensures .0) (c .before .before .before .low-at2 .ensures .0) (c .before .before .high-at2 .ensures .0) (c .if2 .taken)
+returns : tie.Need-returns Inv-loop μ-loop
+returns c =
+    let x = c .before in
+    let s = c .before .before .before .before .before .before .before .loop in
+    let q = c .before .before .before .before .before .before .before .before .args in
+    let d = regionOf (q .self) in
+    let a = regionOf (q .a) in
+    both-fails meets d a (s .k) (s .inv .3) (range 0 0) (range 0 0) (omega arith) (omega arith)
+    (x .ranges-meet .ensures ∙ ap₂ meets (range-read d (s .k) (x .before .before .before .before .low-at .ensures .0) (x .before .before .before .high-at .ensures .0)) (range-read a (s .k) (x .before .before .low-at2 .ensures .0) (x .before .high-at2 .ensures .0)))
+    (c .if1 .taken)
 
 add-k : tie.Need-add-k Inv-loop μ-loop
 add-k c = search needs
@@ -50,10 +64,25 @@ loop-less : tie.Need-loop-less Inv-loop μ-loop
 loop-less c = search needs
 
 loop-again : tie.Need-loop-again Inv-loop μ-loop
-loop-again c = sharing-next (c .before .before .before .before .before .before .before .loop .inv) (c .before .before .before .before .before .before .loop-test .taken) (c .before .before .before .before .before .low-at .ensures .0) (c .before .before .before .before .high-at .ensures .0) (c .before .before .before .low-at2 .ensures .0) (c .before .before .high-at2 .ensures .0) (c .before .if1 .left) (c .if2 .left)
+loop-again c =
+    let x = c .before in
+    let s = c .before .before .before .before .before .before .before .loop in
+    let q = c .before .before .before .before .before .before .before .before .args in
+    let d = regionOf (q .self) in
+    let a = regionOf (q .a) in (
+      omega arith,
+      s .inv .1,
+      s .inv .2,
+      both-passes meets d a (s .k) (s .inv .3) (range 0 0) (range 0 0) (omega arith) (omega arith)
+          (x .ranges-meet .ensures ∙ ap₂ meets (range-read d (s .k) (x .before .before .before .before .low-at .ensures .0) (x .before .before .before .high-at .ensures .0)) (range-read a (s .k) (x .before .before .low-at2 .ensures .0) (x .before .high-at2 .ensures .0)))
+          (c .if1 .left),
+    )
 
-returns-3 : tie.Need-returns-3 Inv-loop μ-loop
-returns-3 c = sharing-all (c .before .loop .inv) (c .loop-test .left)
+returns-2 : tie.Need-returns-2 Inv-loop μ-loop
+returns-2 c =
+    let s = c .before .loop in
+    let q = c .before .before .args in
+    both-done meets (regionOf (q .self)) (regionOf (q .a)) (s .k) (s .inv .3) (omega arith) (omega arith)
 
 pub shares-spec : {M : Type 1} → statement M
 shares-spec =
@@ -66,9 +95,9 @@ shares-spec =
     high-at-requires
     low-at-requires-2
     high-at-requires-2
+    ranges-meet-requires
     returns
-    returns-2
     add-k
     loop-less
     loop-again
-    returns-3)
+    returns-2)
