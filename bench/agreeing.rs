@@ -1,6 +1,6 @@
-// Before anything is measured: the three planners give the same answers and leave the same bytes on random plants, on edits of
-// them, on the same with a byte changed or cut off, and on two lists that get 7 and 6.
-use crate::inputs::{own, rule, single_values, DENY};
+// Before anything is measured: the three planners give the same answers and leave the same bytes on the lists that are measured, which
+// they accept, on random plants, on edits of them, on the same with a byte changed or cut off, and on two lists that get 7 and 6.
+use crate::inputs::{self, own, rule, single_values, DENY};
 use crate::measure::Random;
 use crate::plants::plant;
 use crate::sheets::{order_of, record_of, REFUSED};
@@ -42,6 +42,11 @@ pub fn run() {
     let mut desk = Desk::new();
     let mut answers = [0usize; 10];
     let mut note = |answer: u32| answers[answer.saturating_sub(REFUSED) as usize] += 1;
+    for input in inputs::all() {
+        let answer = agreed(&mut desk, |desk, planner| desk.move_order(planner, &order_of(&input.gate, &input.own)));
+        assert!(answer < REFUSED, "{}: {answer}", input.name);
+        note(answer);
+    }
     for (fields, each) in [(2, 31), (3, 10)] {
         let gate = [single_values(fields, each), vec![rule(&[], DENY)]].concat();
         note(agreed(&mut desk, |desk, planner| desk.move_order(planner, &order_of(&gate, &own(1)))));

@@ -18,9 +18,11 @@ mod versions;
 
 fn main() {
     let words: Vec<String> = std::env::args().skip(1).collect();
+    let word = |i: usize| words.get(i).map(String::as_str);
     let number = |i: usize| words[i].parse().unwrap();
-    match words.first().map(String::as_str) {
-        Some("evaluation") => return evaluation::run(words.len() == 1),
+    match word(0) {
+        Some("evaluation") => return evaluation::run(word(1) != Some("untimed")),
+        Some("agree") => return agreeing::run(),
         Some("names") => return moving::names(),
         Some("moves") => return moving::repeat(number(1), number(2), number(3)),
         _ => {}

@@ -2,7 +2,7 @@
 use crate::inputs;
 use crate::measure::{head, medians, row, timed};
 use crate::sheets::{boxes, order_of, REFUSED};
-use crate::versions::{Desk, PLANNERS};
+use crate::versions::{Desk, Planner, PLANNERS};
 use std::hint::black_box;
 
 // The names of the lists that are moved, a line each.
@@ -22,12 +22,9 @@ pub fn run() {
     head("move", &["rules", "own", "boxes", "bytes"], &PLANNERS);
     for input in inputs::all() {
         let order = order_of(&input.gate, &input.own);
-        let mut desks: Vec<Desk> = PLANNERS.iter().map(|_| Desk::new()).collect();
-        let answers: Vec<u32> = PLANNERS.iter().zip(&mut desks).map(|((_, p), desk)| desk.move_order(*p, &order)).collect();
-        assert!(answers[0] < REFUSED && answers.iter().all(|a| *a == answers[0]), "{}: {answers:?}", input.name);
-        assert!(desks.iter().all(|d| d.sheet == desks[0].sheet), "{}", input.name);
-        let sizes = [input.gate.len(), input.own.len(), boxes(order.len(), &desks[0].sheet), answers[0] as usize];
-        let desk = &mut desks[0];
+        let mut desk = Desk::new();
+        let used = desk.move_order(Planner::Library, &order) as usize;
+        let sizes = [input.gate.len(), input.own.len(), boxes(order.len(), &desk.sheet), used];
         let times = medians(&PLANNERS, |p| {
             timed(1, || {
                 black_box(desk.move_order(p, black_box(&order)));
