@@ -1,7 +1,7 @@
 //! The cut as it was before 02, W2: 000's printed algorithm. No call follows it any more; it makes
 //! the sheets that were moved then, to be given to the calls of now.
 
-use crate::boxes::{Group, PacketBox, Rule, FIELDS, MOST_PIECES};
+use crate::boxes::{self, Group, PacketBox, Rule, FIELDS, MOST_PIECES};
 use crate::sheets::{PairSheet, MOST_LIST_RULES};
 
 /// Field by field the part below the allow's range, then the part above it, going on with what is
@@ -36,8 +36,7 @@ fn group(gate: &[Rule], place: usize) -> Option<Group> {
 
 /// The groups that the gate gave, unless it was refused with 6.
 pub fn groups(gate: &[Rule]) -> Option<Vec<Group>> {
-    let denies = (0..gate.len()).filter(|&place| !gate[place].allows());
-    denies.map(|place| group(gate, place)).collect()
+    boxes::denies(gate).map(|place| group(gate, place)).collect()
 }
 
 /// The pair sheet that moving these two lists gave, unless they were refused with 6 or 7.

@@ -135,6 +135,11 @@ pub fn first_match(list: &[Rule], packet: &Packet) -> Option<(usize, Action)> {
     Some((place, list[place].action))
 }
 
+/// The places of the gate's deny rules.
+pub fn denies(gate: &[Rule]) -> impl Iterator<Item = usize> + '_ {
+    (0..gate.len()).filter(|&place| !gate[place].allows())
+}
+
 /// Every piece in order, replaced by what `allow` leaves of it.
 pub fn take(pieces: &[PacketBox], allow: &PacketBox) -> Vec<PacketBox> {
     pieces.iter().flat_map(|piece| piece.less(allow)).collect()
@@ -155,8 +160,7 @@ pub fn group(deny: &PacketBox, earlier: &[Rule], part: Part) -> Result<Group, Re
 
 /// One group for each deny rule of the gate, in gate order.
 pub fn groups(gate: &[Rule]) -> Result<Vec<Group>, Refusal> {
-    let denies = (0..gate.len()).filter(|&place| !gate[place].allows());
-    denies.map(|place| group(&gate[place].area, &gate[..place], Part::C)).collect()
+    denies(gate).map(|place| group(&gate[place].area, &gate[..place], Part::C)).collect()
 }
 
 /// The moved pair's cell list: the groups in front, as denies, so that no gate allow can skip the
@@ -183,8 +187,7 @@ pub fn first_origin(
     own: &[Rule],
     packet: &Packet,
 ) -> Option<(usize, Action, Origin)> {
-    let denies = (0..gate.len()).filter(|&place| !gate[place].allows());
-    let boxes = denies.zip(groups).flat_map(|(place, group)| {
+    let boxes = denies(gate).zip(groups).flat_map(|(place, group)| {
         let origin = move |number| Origin::Gate { place, number };
         group.iter().enumerate().map(move |(number, area)| (area, Action::Deny, origin(number)))
     });

@@ -4,7 +4,7 @@
 use std::sync::OnceLock;
 
 use crate::before;
-use crate::boxes::{self, Group, Packet, Rule, HIGHEST};
+use crate::boxes::{self, Group, Packet, PacketBox, Rule, HIGHEST};
 use crate::broken_cut;
 use crate::calls::{self, encode, Change, Edit, LARGEST_PAIR_SHEET, REFUSED, WORK};
 use crate::sheets::{self, PairSheet, RECORD_BYTES};
@@ -82,16 +82,28 @@ fn rewrite(answer: &mut u32, sheet: &mut [u8], change: impl FnOnce(&mut PairShee
     }
 }
 
-/// Groups without the limit of 6, every deny behind the rules that `earlier` gives for it.
-fn unlimited<'g>(gate: &'g [Rule], earlier: impl Fn(usize) -> &'g [Rule]) -> Vec<Group> {
-    let group = |place: usize| {
-        let allows = earlier(place).iter().filter(|rule| rule.allows());
-        allows.fold(vec![gate[place].area.clone()], |pieces, rule| boxes::take(&pieces, &rule.area))
-    };
-    (0..gate.len()).filter(|&place| !gate[place].allows()).map(group).collect()
+/// What an allow leaves of the pieces.
+type Take = fn(&[PacketBox], &PacketBox) -> Vec<PacketBox>;
+
+/// Groups by the cut `take` and without the limit of 6.
+pub fn unlimited(gate: &[Rule], take: Take) -> Vec<Group> {
+    unlimited_behind(gate, take, |place| &gate[..place])
 }
 
-fn total(groups: &[Group]) -> usize {
+/// The same, every deny behind the rules that `earlier` gives for it.
+fn unlimited_behind<'g>(
+    gate: &'g [Rule],
+    take: Take,
+    earlier: impl Fn(usize) -> &'g [Rule],
+) -> Vec<Group> {
+    let group = |place: usize| {
+        let allows = earlier(place).iter().filter(|rule| rule.allows());
+        allows.fold(vec![gate[place].area.clone()], |pieces, rule| take(&pieces, &rule.area))
+    };
+    boxes::denies(gate).map(group).collect()
+}
+
+pub fn total(groups: &[Group]) -> usize {
     groups.iter().map(Vec::len).sum()
 }
 
@@ -108,7 +120,7 @@ pub fn move_pair(order: &[u8], sheet: &mut [u8], work: &mut [u8]) -> u32 {
             pair.groups.iter_mut().for_each(|group| group.reverse());
         }
         if shows("later-allows") {
-            pair.groups = unlimited(&pair.gate, |_| &pair.gate);
+            pair.groups = unlimited_behind(&pair.gate, boxes::take, |_| &pair.gate);
         }
         if shows("same-sheet-always") {
             pair.groups = vec![Vec::new(); pair.groups.len()];
@@ -126,7 +138,8 @@ pub fn move_pair(order: &[u8], sheet: &mut [u8], work: &mut [u8]) -> u32 {
 
 /// The most pieces that any pass over any deny leaves.
 fn most_pieces(gate: &[Rule]) -> usize {
-    let passes = (0..gate.len()).map(|end| unlimited(gate, |place| &gate[..place.min(end)]));
+    let passes = (0..gate.len())
+        .map(|end| unlimited_behind(gate, boxes::take, |place| &gate[..place.min(end)]));
     passes.flat_map(|groups| groups.into_iter().map(|group| group.len())).max().unwrap_or(0)
 }
 
@@ -143,7 +156,7 @@ fn limits_confused(answer: u32, gate: &[Rule], own: usize) -> u32 {
     if answer != refused(6) {
         return answer;
     }
-    let groups = unlimited(gate, |place| &gate[..place]);
+    let groups = unlimited(gate, boxes::take);
     let too_many_boxes = total(&groups) + own > 1_024;
     if shows("7-before-6") && too_many_boxes {
         return refused(7);
@@ -257,7 +270,7 @@ fn groups_confused(answer: &mut u32, sheet: &mut [u8], edit: &Edit, old: &PairSh
         let renews_all = shows("own-edit-renews-groups") && !of_gate
             || shows("gate-edit-renews-all-groups") && of_gate;
         if renews_all {
-            pair.groups = unlimited(&pair.gate, |place| &pair.gate[..place]);
+            pair.groups = unlimited(&pair.gate, boxes::take);
         }
         if shows("edit-cuts-as-before-w2") && of_gate {
             broken_cut::renew_as_before(pair, edit, old);
@@ -284,12 +297,12 @@ fn check_confused(answer: u32, sheet: &[u8]) -> u32 {
         return if broken_cut::moved_before(sheet).is_some() { 0 } else { answer };
     }
     if shows("check-compares-counts") && answer == refused(8) {
-        let groups = unlimited(&pair.gate, |place| &pair.gate[..place]);
+        let groups = unlimited(&pair.gate, boxes::take);
         let same = groups.iter().map(Vec::len).eq(pair.groups.iter().map(Vec::len));
         return if same { 0 } else { answer };
     }
     if shows("check-says-7") && answer == refused(8) {
-        let groups = unlimited(&pair.gate, |place| &pair.gate[..place]);
+        let groups = unlimited(&pair.gate, boxes::take);
         return if total(&groups) + pair.own.len() > 1_024 { refused(7) } else { answer };
     }
     if shows("check-says-8-for-6") && answer == refused(6) {

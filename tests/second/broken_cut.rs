@@ -2,8 +2,8 @@
 //! about, in the cut itself and in the calls that meet sheets of before it.
 
 use crate::before;
-use crate::boxes::{Group, PacketBox, Range, Rule, FIELDS};
-use crate::broken::{name, refused, shows};
+use crate::boxes::{denies, PacketBox, Range, FIELDS};
+use crate::broken::{name, refused, shows, unlimited};
 use crate::calls::{self, Change, Edit, WORK};
 use crate::sheets::{self, PairSheet};
 
@@ -11,24 +11,8 @@ use crate::sheets::{self, PairSheet};
 /// fault's, the pair is cut as it should be.
 pub fn cut_confused(pair: &mut PairSheet) {
     if name().starts_with("cut-") {
-        pair.groups = groups(&pair.gate, take);
+        pair.groups = unlimited(&pair.gate, take);
     }
-}
-
-type Take = fn(&[PacketBox], &PacketBox) -> Vec<PacketBox>;
-
-/// Groups without the limit of 6.
-fn groups(gate: &[Rule], take: Take) -> Vec<Group> {
-    let group = |place: usize| {
-        let allows = gate[..place].iter().filter(|rule| rule.allows());
-        allows.fold(vec![gate[place].area.clone()], |pieces, rule| take(&pieces, &rule.area))
-    };
-    denies(gate).map(group).collect()
-}
-
-/// The places of the gate's deny rules.
-fn denies(gate: &[Rule]) -> impl Iterator<Item = usize> + '_ {
-    (0..gate.len()).filter(|&place| !gate[place].allows())
 }
 
 fn take_as_before(pieces: &[PacketBox], allow: &PacketBox) -> Vec<PacketBox> {
@@ -180,7 +164,7 @@ pub fn renew_as_before(pair: &mut PairSheet, edit: &Edit, old: &PairSheet) {
     let allow_changed =
         takes_out && old.gate[place].allows() || puts_in && pair.gate[place].allows();
     let anew = |at: usize| allow_changed && at >= place || puts_in && at == place;
-    let before = groups(&pair.gate, take_as_before);
+    let before = unlimited(&pair.gate, take_as_before);
     for ((at, group), before) in denies(&pair.gate).zip(&mut pair.groups).zip(before) {
         if anew(at) {
             *group = before;

@@ -1,7 +1,7 @@
 //! The origin with one fault each, named as in broken.rs: what a hurried reading of W1 could bring
 //! about.
 
-use crate::boxes::{self, Group, Packet, HIGHEST};
+use crate::boxes::{self, denies, Group, Packet, HIGHEST};
 use crate::broken::{accepted, refused, shows};
 use crate::broken_cut;
 use crate::calls::{self, encode, ORIGIN_NUMBERS, WORK};
@@ -97,10 +97,10 @@ fn gate_confused(answer: u32, packet: &Packet, pair: &PairSheet, numbers: &mut [
     }
     if shows("origin-skips-empty-groups") {
         let filled = groups_before(pair, rule).filter(|group| !group.is_empty()).count();
-        numbers[1] = denies(pair).nth(filled).unwrap_or(rule) as u32;
+        numbers[1] = denies(&pair.gate).nth(filled).unwrap_or(rule) as u32;
     }
     if shows("origin-last-deny") {
-        let last = denies(pair).filter(|&place| pair.gate[place].area.has(packet)).last();
+        let last = denies(&pair.gate).filter(|&place| pair.gate[place].area.has(packet)).last();
         numbers[1] = last.unwrap_or(rule) as u32;
     }
     let number = numbers[2];
@@ -116,13 +116,8 @@ fn gate_confused(answer: u32, packet: &Packet, pair: &PairSheet, numbers: &mut [
     }
 }
 
-/// The places of the gate's deny rules.
-fn denies(pair: &PairSheet) -> impl Iterator<Item = usize> + '_ {
-    (0..pair.gate.len()).filter(|&place| !pair.gate[place].allows())
-}
-
 fn groups_before(pair: &PairSheet, rule: usize) -> impl Iterator<Item = &Group> {
-    let earlier = denies(pair).zip(&pair.groups).take_while(move |(place, _)| *place < rule);
+    let earlier = denies(&pair.gate).zip(&pair.groups).take_while(move |(place, _)| *place < rule);
     earlier.map(|(_, group)| group)
 }
 

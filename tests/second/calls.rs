@@ -203,12 +203,11 @@ fn change_line<T>(lines: &mut Vec<T>, edit: &Edit, put: Option<T>) -> Option<T> 
 
 /// Kept groups as they stand, the others worked out anew.
 fn groups_of(lines: &[Line], gate: &[Rule]) -> Result<Vec<Group>, Refusal> {
-    let denies = (0..lines.len()).filter(|&place| !gate[place].allows());
     let group_at = |place: usize| match &lines[place].group {
         Some(kept) => Ok(kept.clone()),
         None => boxes::group(&gate[place].area, &gate[..place], Part::NewA),
     };
-    denies.map(group_at).collect()
+    boxes::denies(gate).map(group_at).collect()
 }
 
 /// A pair sheet that is not stale.

@@ -2,7 +2,7 @@
 //! here is asked of the library itself, by its own moves.
 
 use crate::before;
-use crate::boxes::{Action, PacketBox, Rule, FIELDS};
+use crate::boxes::{self, Action, PacketBox, Rule, FIELDS};
 use crate::calls::Answer;
 use crate::draw::{DrawnEdit, Kind, Pair, Shape};
 use crate::drive::Driver;
@@ -102,8 +102,7 @@ fn hold_own_edit(driver: &mut Driver, old: &PairSheet, sheet: &[u8]) {
 
 /// A deny for itself: its group becomes the fresh move's, and stands between those of before.
 fn hold_renewed_group(driver: &mut Driver, old: &PairSheet, fresh: &PairSheet) {
-    let denies: Vec<usize> =
-        (0..old.gate.len()).filter(|&place| !old.gate[place].allows()).collect();
+    let denies: Vec<usize> = boxes::denies(&old.gate).collect();
     if denies.is_empty() {
         return;
     }
