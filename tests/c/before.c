@@ -7,10 +7,8 @@
  *         tests/c/before.c target/staticlib/libfoldplover.a
  *     target/before tests/second/before_w2.pair
  */
-#include <stdio.h>
-#include <string.h>
-
-#include "foldplover.h"
+#define PROGRAM "before"
+#include "expect.h"
 
 #define OLD_LENGTH 9932u   /* 337 boxes */
 #define FRESH_LENGTH 5772u /* 177 boxes */
@@ -21,11 +19,6 @@
 #define DENY_GROUP 7u
 #define OLD_BOXES 18u      /* of its group, and now */
 #define FRESH_BOXES 4u
-#define RECORD FOLDPLOVER_RECORD
-#define REFUSAL(number) (FOLDPLOVER_REFUSED + (uint32_t)(number))
-#define UNTOUCHED 0xee
-
-static int failures = 0;
 
 static uint8_t old[OLD_LENGTH + 1];
 static uint8_t fresh[FOLDPLOVER_PAIR_SHEET];
@@ -33,35 +26,6 @@ static uint8_t sheet[FOLDPLOVER_PAIR_SHEET + 1];
 static uint8_t wanted[FOLDPLOVER_PAIR_SHEET];
 static uint8_t list[FOLDPLOVER_CELL_LIST + 1];
 static uint8_t work[FOLDPLOVER_WORK + 1];
-
-static void expect(const char *what, uint32_t got, uint32_t right)
-{
-    if (got != right) {
-        printf("before: %s: expected %lu, got %lu\n", what, (unsigned long)right,
-               (unsigned long)got);
-        failures++;
-    }
-}
-
-static void expect_bytes(const char *what, const uint8_t *got, const uint8_t *right, size_t count)
-{
-    if (memcmp(got, right, count) != 0) {
-        printf("before: %s: other bytes\n", what);
-        failures++;
-    }
-}
-
-static void expect_all(const char *what, const uint8_t *got, uint8_t right, size_t count)
-{
-    size_t place = 0;
-    while (place < count && got[place] == right) {
-        place++;
-    }
-    if (place < count) {
-        printf("before: %s: byte %lu is %u\n", what, (unsigned long)place, got[place]);
-        failures++;
-    }
-}
 
 /* Where a group's own count stands. */
 static size_t group_start(const uint8_t *bytes, uint32_t group)
@@ -199,7 +163,7 @@ int main(int count, char **names)
 {
     FILE *file = count == 2 ? fopen(names[1], "rb") : NULL;
     if (file == NULL) {
-        printf("before: no sheet\n");
+        printf(PROGRAM ": no sheet\n");
         return 2;
     }
     expect("the sheet's length", (uint32_t)fread(old, 1, sizeof old, file), OLD_LENGTH);
@@ -209,8 +173,5 @@ int main(int count, char **names)
     test_own_edit();
     test_delete();
     test_replace();
-    if (failures == 0) {
-        printf("before: ok\n");
-    }
-    return failures == 0 ? 0 : 1;
+    return verdict();
 }

@@ -4,20 +4,13 @@
  *     gcc -std=c11 -Wall -Wextra -Wpedantic -Werror -Iinclude -o target/surface \
  *         tests/c/surface.c target/staticlib/libfoldplover.a
  */
-#include <stdio.h>
-#include <string.h>
-
-#include "foldplover.h"
+#define PROGRAM "surface"
+#include "expect.h"
 
 #define ORDER_LENGTH 112u
 #define A_LENGTH 83u
 #define PAIR_LENGTH 220u
 #define CELL_LENGTH 137u
-#define RECORD FOLDPLOVER_RECORD
-#define REFUSAL(number) (FOLDPLOVER_REFUSED + (uint32_t)(number))
-#define UNTOUCHED 0xee
-
-static int failures = 0;
 
 static uint8_t sheet[FOLDPLOVER_PAIR_SHEET + 1];
 static uint8_t work[FOLDPLOVER_WORK + 1];
@@ -51,35 +44,6 @@ static const uint8_t dairy_groups[PAIR_LENGTH - ORDER_LENGTH] = {
     0x00, 0x00, 0x13, 0x00, 0x00, 0xff, 0xff, 0x00, 0x00, 0x00, 0x4f, 0x06, 0x06,
     0x00, 0x00, 0x00, 0x00, 0xff, 0xff, 0xff, 0xff, 0x00, 0x00, 0x00, 0x0a, 0x00,
     0x00, 0x00, 0x13, 0x00, 0x00, 0xff, 0xff, 0x00, 0x51, 0xff, 0xff, 0x06, 0x06};
-
-static void expect(const char *what, uint32_t got, uint32_t wanted)
-{
-    if (got != wanted) {
-        printf("surface: %s: expected %lu, got %lu\n", what, (unsigned long)wanted,
-               (unsigned long)got);
-        failures++;
-    }
-}
-
-static void expect_bytes(const char *what, const uint8_t *got, const uint8_t *wanted, size_t count)
-{
-    if (memcmp(got, wanted, count) != 0) {
-        printf("surface: %s: other bytes\n", what);
-        failures++;
-    }
-}
-
-static void expect_all(const char *what, const uint8_t *got, uint8_t wanted, size_t count)
-{
-    size_t place = 0;
-    while (place < count && got[place] == wanted) {
-        place++;
-    }
-    if (place < count) {
-        printf("surface: %s: byte %lu is %u\n", what, (unsigned long)place, got[place]);
-        failures++;
-    }
-}
 
 static uint32_t move(const uint8_t *bytes, size_t length)
 {
@@ -609,8 +573,5 @@ int main(void)
     test_edit_refusals();
     test_split_and_join();
     test_record();
-    if (failures == 0) {
-        printf("surface: ok\n");
-    }
-    return failures == 0 ? 0 : 1;
+    return verdict();
 }
