@@ -97,15 +97,18 @@ static void expect_edited(const char *what, uint32_t got, size_t length)
     expect(what, check(sheet, length), REFUSAL(FOLDPLOVER_GROUPS));
 }
 
+/* The first own rule goes; A and section C stay byte for byte. */
 static void test_own_edit(void)
 {
-    uint8_t record[RECORD];
-    size_t length = append(0, old, OLD_LENGTH);
+    static const uint8_t count[2] = {0, 11};
+    const uint8_t *behind_rule = old + OWN_RULES + RECORD;
+    size_t length = append(0, old, OWN_RULES - 2);
+    length = append(length, count, 2);
+    length = append(length, behind_rule, (size_t)(old + OLD_LENGTH - behind_rule));
     lend_old();
-    memcpy(record, old + OWN_RULES, RECORD);
-    expect_edited("own rule 0 for itself",
-                  foldplover_replace(sheet, sizeof sheet, OLD_LENGTH, FOLDPLOVER_B, 0, record,
-                                     RECORD, work, sizeof work),
+    expect_edited("an own rule taken out",
+                  foldplover_delete(sheet, sizeof sheet, OLD_LENGTH, FOLDPLOVER_B, 0, work,
+                                    sizeof work),
                   length);
 }
 

@@ -65,6 +65,10 @@ pub fn before_scene(driver: &mut Driver, shape: &Shape, pair: &Pair) {
     hold_to_fresh_move(driver, &edited);
 }
 
+fn number(answer: Answer) -> Option<u32> {
+    answer.err().map(Refusal::number)
+}
+
 /// The calls that check take a sheet exactly where it is, byte for byte, the fresh move of its own
 /// two lists. Else they give 8, or 6 where that move does. The fresh move itself, if it is
 /// accepted, they take.
@@ -77,7 +81,6 @@ fn hold_to_fresh_move(driver: &mut Driver, sheet: &[u8]) -> Option<PairSheet> {
         Err(refusal) if refusal.number() == 6 => Some(6),
         _ => Some(8),
     };
-    let number = |answer: Answer| answer.err().map(Refusal::number);
     let packet = origins::packet_for(&mut driver.random, sheet);
     let checks =
         [driver.check(sheet), driver.gate_list(sheet).0, driver.cell_list(sheet).0].map(number);
@@ -91,13 +94,19 @@ fn hold_to_fresh_move(driver: &mut Driver, sheet: &[u8]) -> Option<PairSheet> {
     sheets::read_pair(fresh).ok()
 }
 
-/// The first own rule for itself: every group stays as it stands, and so does every other byte.
+/// The first own rule taken out, if it is not the only one: A and every group stay as they stand,
+/// and the check answers what it did.
 fn hold_own_edit(driver: &mut Driver, old: &PairSheet, sheet: &[u8]) {
-    let record = sheets::rule_bytes(&old.own[0]);
-    let edit = DrawnEdit { kind: Kind::Replace, list: 1, place: 0, record };
+    if old.own.len() == 1 {
+        return;
+    }
+    let wanted = sheets::pair_bytes(&PairSheet { own: old.own[1..].to_vec(), ..old.clone() });
+    let edit = DrawnEdit { kind: Kind::Delete, list: 1, place: 0, record: Vec::new() };
     let (answer, after) = driver.edit(sheet, sheet.len() as u64, &edit);
-    let kept = answer.is_ok_and(|length| after[..length as usize] == *sheet);
-    driver.demand(kept, "an own rule put for itself", &[("sheet", sheet)]);
+    let kept = answer.is_ok_and(|length| after[..length as usize] == wanted);
+    driver.demand(kept, "an own rule taken out", &[("sheet", sheet)]);
+    let checks = [sheet, &wanted].map(|sheet| number(driver.check(sheet)));
+    driver.demand(checks[0] == checks[1], "the check without an own rule", &[("sheet", sheet)]);
 }
 
 /// A deny for itself: its group becomes the fresh move's, and stands between those of before.
