@@ -23,7 +23,7 @@ pub fn less(deny: &PacketBox, allow: &PacketBox) -> Vec<PacketBox> {
 }
 
 /// The group of the deny at `place`, unless the move gave 6 for it.
-fn group(gate: &[Rule], place: usize) -> Option<Group> {
+pub fn group(gate: &[Rule], place: usize) -> Option<Group> {
     let mut pieces = vec![gate[place].area.clone()];
     for allow in gate[..place].iter().filter(|rule| rule.allows()) {
         pieces = pieces.iter().flat_map(|piece| less(piece, &allow.area)).collect();

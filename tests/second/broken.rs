@@ -190,6 +190,7 @@ pub fn edit(sheet: &mut [u8], used: u64, mut edit: Edit, work: &mut [u8]) -> u32
     let mut answer = encode(calls::edit(sheet, used, &edit, work));
     if let Some(Ok(old)) = old {
         answer = order_confused(answer, &edit, &old);
+        answer = broken_cut::edit_limits_of_before(answer, sheet, &edit, &old);
         groups_confused(&mut answer, sheet, &edit, &old);
     }
     if shows("edit-moves-again-for-7") && answer == refused(7) {
@@ -307,6 +308,10 @@ fn check_confused(answer: u32, sheet: &[u8]) -> u32 {
     }
     if shows("check-says-8-for-6") && answer == refused(6) {
         return refused(8);
+    }
+    let too_many_before = || answer != refused(1) && before::groups(&pair.gate).is_none();
+    if shows("check-6-counts-pieces-of-before") && too_many_before() {
+        return refused(6);
     }
     answer
 }

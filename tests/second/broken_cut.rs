@@ -3,7 +3,7 @@
 
 use crate::before;
 use crate::boxes::{denies, PacketBox, Range, FIELDS};
-use crate::broken::{name, refused, shows, unlimited};
+use crate::broken::{accepted, name, refused, shows, total, unlimited};
 use crate::calls::{self, Change, Edit, WORK};
 use crate::sheets::{self, PairSheet};
 
@@ -156,18 +156,41 @@ pub fn edit_moved_again(sheet: &mut [u8], used: u64, edit: &Edit) -> u32 {
     }
 }
 
-/// The groups that an edit of A has worked out anew, cut as before.
-pub fn renew_as_before(pair: &mut PairSheet, edit: &Edit, old: &PairSheet) {
+/// The numbers of the groups that an edit of A has worked out anew, each with its deny's place.
+fn anew(pair: &PairSheet, edit: &Edit, old: &PairSheet) -> Vec<(usize, usize)> {
     let place = edit.place as usize;
     let (takes_out, puts_in) =
         (!matches!(edit.change, Change::Insert(_)), !matches!(edit.change, Change::Delete));
     let allow_changed =
         takes_out && old.gate[place].allows() || puts_in && pair.gate[place].allows();
     let anew = |at: usize| allow_changed && at >= place || puts_in && at == place;
+    denies(&pair.gate).enumerate().filter(|&(_, at)| anew(at)).collect()
+}
+
+/// Those groups cut as before.
+pub fn renew_as_before(pair: &mut PairSheet, edit: &Edit, old: &PairSheet) {
     let before = unlimited(&pair.gate, take_as_before);
-    for ((at, group), before) in denies(&pair.gate).zip(&mut pair.groups).zip(before) {
-        if anew(at) {
-            *group = before;
+    for (group, _) in anew(pair, edit, old) {
+        pair.groups[group] = before[group].clone();
+    }
+}
+
+/// 6 and 7 in an edit of A by the pieces that the cut of before would have made of those groups.
+pub fn edit_limits_of_before(answer: u32, sheet: &[u8], edit: &Edit, old: &PairSheet) -> u32 {
+    if !accepted(answer) || edit.list != 0 {
+        return answer;
+    }
+    let mut pair = sheets::read_pair(&sheet[..answer as usize]).expect("an accepted edit's sheet");
+    let too_many = |&(_, at): &(usize, usize)| before::group(&pair.gate, at).is_none();
+    let too_many_pieces = || anew(&pair, edit, old).iter().any(too_many);
+    if shows("edit-6-counts-pieces-of-before") && too_many_pieces() {
+        return refused(6);
+    }
+    if shows("edit-7-counts-boxes-of-before") && !too_many_pieces() {
+        renew_as_before(&mut pair, edit, old);
+        if total(&pair.groups) + pair.own.len() > 1_024 {
+            return refused(7);
         }
     }
+    answer
 }

@@ -38,7 +38,7 @@ tail -n 1 $out/report.txt | grep '^20000 cases, .* no difference, every answer m
 # faults would be found whatever they were.
 (
     export FOLDPLOVER_BROKEN=cut-without-fault
-    drive 5000 1
+    drive 20000 1
 )
 
 # The names that the sources ask `shows` for: at least one, and no question without one.
