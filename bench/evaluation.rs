@@ -2,7 +2,7 @@
 // tables of docs/EVALUATION.md, with `-` for times that would say nothing.
 use crate::inputs::{nested, own, rule, single_values, ALLOW, DENY};
 use crate::measure::{median, timed, Random};
-use crate::planner::cut;
+use crate::planner::{cut, cut_field, meet};
 use crate::plants::plant;
 use crate::sheets::{boxes, order_of, Region, Rule, FIELDS, GATE, MOST, REFUSED};
 use crate::versions::{Desk, Planner};
@@ -16,21 +16,16 @@ const SEED: u64 = 0x9E37_79B9_7F4A_7C15;
 // A way to take an allow from a piece.
 type Take = fn(&Region, &Region, &mut Vec<Region>);
 
-// The cut as the paper prints it. It ends at the first field that shares nothing: the fields before it have split the piece, as an
-// allow does that has all of the later fields, and what is left there of the piece stays.
+// The paper's algorithm 3 takes for granted that ranges meet, and as printed goes on with an empty range where they do not. That the cut
+// ends at the first field that shares nothing, with what is left as one piece, is the build scope's reading.
 fn cut_as_printed(d: &Region, a: &Region, out: &mut Vec<Region>) {
-    let mut wide = *a;
     let mut rest = *d;
     for k in 0..FIELDS {
-        if d.high[k] < a.low[k] || a.high[k] < d.low[k] {
-            wide.low[k..].copy_from_slice(&d.low[k..]);
-            wide.high[k..].copy_from_slice(&d.high[k..]);
-            cut(d, &wide, out);
+        if !meet(d, a, k) {
             return out.push(rest);
         }
-        (rest.low[k], rest.high[k]) = (d.low[k].max(a.low[k]), d.high[k].min(a.high[k]));
+        cut_field(&mut rest, a, k, out);
     }
-    cut(d, a, out);
 }
 
 // What a gate's groups come to: all boxes, the most pieces that one group has after an allow, and the pieces of every group after

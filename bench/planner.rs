@@ -3,12 +3,33 @@ use crate::reading::{pair, region_at, rule_at, section, sound, Pair};
 use crate::sheets::{two, Region, Rule, BOX, FIELDS, FULL, GATE, MOST, OWN, RECORD, REFUSED, SHEET, WIDTH};
 use crate::versions::Edit;
 
-fn share(d: &Region, a: &Region) -> bool {
-    (0..FIELDS).all(|k| a.low[k] <= d.high[k] && d.low[k] <= a.high[k])
+pub fn meet(d: &Region, a: &Region, k: usize) -> bool {
+    a.low[k] <= d.high[k] && d.low[k] <= a.high[k]
 }
 
-// The pieces of d without a. A region that shares no packet with a stays whole. The evaluation calls it too, so the compiler would not
-// put it into its own caller unasked.
+fn share(d: &Region, a: &Region) -> bool {
+    (0..FIELDS).all(|k| meet(d, a, k))
+}
+
+// The parts of a region below and above a's range in a field where they meet; the region is left with what is between. The evaluation
+// calls this and the cut too, so the compiler would not put them into their own callers unasked.
+#[inline(always)]
+pub fn cut_field(rest: &mut Region, a: &Region, k: usize, out: &mut Vec<Region>) {
+    if rest.low[k] < a.low[k] {
+        let mut below = *rest;
+        below.high[k] = a.low[k] - 1;
+        out.push(below);
+        rest.low[k] = a.low[k];
+    }
+    if a.high[k] < rest.high[k] {
+        let mut above = *rest;
+        above.low[k] = a.high[k] + 1;
+        out.push(above);
+        rest.high[k] = a.high[k];
+    }
+}
+
+// The pieces of d without a. A region that shares no packet with a stays whole.
 #[inline(always)]
 pub fn cut(d: &Region, a: &Region, out: &mut Vec<Region>) {
     if !share(d, a) {
@@ -16,20 +37,7 @@ pub fn cut(d: &Region, a: &Region, out: &mut Vec<Region>) {
         return;
     }
     let mut rest = *d;
-    for k in 0..FIELDS {
-        if rest.low[k] < a.low[k] {
-            let mut below = rest;
-            below.high[k] = a.low[k] - 1;
-            out.push(below);
-            rest.low[k] = a.low[k];
-        }
-        if a.high[k] < rest.high[k] {
-            let mut above = rest;
-            above.low[k] = a.high[k] + 1;
-            out.push(above);
-            rest.high[k] = a.high[k];
-        }
-    }
+    (0..FIELDS).for_each(|k| cut_field(&mut rest, a, k, out));
 }
 
 // Section C under construction: its groups in bytes, and how many boxes they have. Past what fits, boxes are only counted.
