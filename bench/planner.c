@@ -20,8 +20,9 @@ struct parts {
     size_t group[GATE + 1];
 };
 
-/* Two lists of pieces with room for one cut more than is allowed, and section C under construction. */
-static struct region pieces[2][MOST + 2 * FIELDS];
+/* The pieces, with room for one cut more than is allowed; those that an allow is still to be taken from; and section C under
+   construction. */
+static struct region pieces[MOST + 2 * FIELDS], uncut[MOST];
 static struct parts parts;
 static uint8_t draft[2 * GATE + BOX * MOST];
 static size_t draft_end, draft_boxes;
@@ -126,50 +127,53 @@ static int share(const struct region *d, const struct region *a) {
     return 1;
 }
 
-/* The pieces of d without a; how many. A region that shares no packet with a stays whole. */
-static size_t cut(struct region d, const struct region *a, struct region *out) {
-    if (!share(&d, a)) {
-        out[0] = d;
-        return 1;
-    }
+/* The pieces of d without a, with which it shares a packet; how many. */
+static size_t cut(const struct region *d, const struct region *a, struct region *out) {
+    struct region rest = *d;
     size_t n = 0;
     for (int k = 0; k < FIELDS; k++) {
-        if (d.low[k] < a->low[k]) {
-            out[n] = d;
+        if (rest.low[k] < a->low[k]) {
+            out[n] = rest;
             out[n++].high[k] = a->low[k] - 1;
-            d.low[k] = a->low[k];
+            rest.low[k] = a->low[k];
         }
-        if (a->high[k] < d.high[k]) {
-            out[n] = d;
+        if (a->high[k] < rest.high[k]) {
+            out[n] = rest;
             out[n++].low[k] = a->high[k] + 1;
-            d.high[k] = a->high[k];
+            rest.high[k] = a->high[k];
         }
     }
     return n;
 }
 
+/* What an allow leaves of n pieces; how many. Those before the first one that it touches stay where they are. */
+static size_t take(size_t n, const struct region *a) {
+    size_t first = 0;
+    while (first < n && !share(&pieces[first], a)) first++;
+    if (first == n) return n;
+    memcpy(uncut, pieces + first, (n - first) * sizeof *uncut);
+    size_t m = first + cut(uncut, a, pieces + first);
+    for (size_t p = 1; p < n - first && m <= MOST; p++) {
+        if (share(&uncut[p], a)) m += cut(&uncut[p], a, pieces + m);
+        else pieces[m++] = uncut[p];
+    }
+    return m;
+}
+
 /* The group of the deny rule at place i, appended to the draft if it still fits; 0, or 6. */
 static uint32_t draft_group(const struct rule *gate, size_t i) {
-    struct region *now = pieces[0], *next = pieces[1];
-    now[0] = gate[i].region;
+    pieces[0] = gate[i].region;
     size_t n = 1;
     for (size_t j = 0; j < i; j++) {
         if (gate[j].action == 0) continue;
-        size_t m = 0;
-        for (size_t p = 0; p < n; p++) {
-            m += cut(now[p], &gate[j].region, next + m);
-            if (m > MOST) return 6;
-        }
-        struct region *before = now;
-        now = next;
-        next = before;
-        n = m;
+        n = take(n, &gate[j].region);
+        if (n > MOST) return 6;
     }
     draft_boxes += n;
     if (draft_boxes > MOST) return 0;
     put_two(draft + draft_end, (uint32_t)n);
     draft_end += COUNT;
-    for (size_t p = 0; p < n; p++, draft_end += BOX) put_region(draft + draft_end, &now[p]);
+    for (size_t p = 0; p < n; p++, draft_end += BOX) put_region(draft + draft_end, &pieces[p]);
     return 0;
 }
 

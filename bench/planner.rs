@@ -46,7 +46,7 @@ struct Draft {
     bytes: Vec<u8>,
     boxes: usize,
     pieces: Vec<Region>,
-    next: Vec<Region>,
+    uncut: Vec<Region>,
 }
 
 impl Draft {
@@ -54,19 +54,26 @@ impl Draft {
         Draft { bytes: Vec::with_capacity(SHEET), ..Draft::default() }
     }
 
+    // What an allow leaves of the pieces. Those before the first one that it touches stay where they are.
+    fn take(&mut self, a: &Region) {
+        let first = self.pieces.iter().position(|d| share(d, a)).unwrap_or(self.pieces.len());
+        self.uncut.clear();
+        self.uncut.extend_from_slice(&self.pieces[first..]);
+        self.pieces.truncate(first);
+        for d in &self.uncut {
+            cut(d, a, &mut self.pieces);
+        }
+    }
+
     // The group of the deny rule at place i, or 6.
     fn work_out(&mut self, gate: &[Rule], i: usize) -> Result<(), u32> {
         self.pieces.clear();
         self.pieces.push(gate[i].region);
         for a in gate[..i].iter().filter(|r| r.action == 1) {
-            self.next.clear();
-            for d in &self.pieces {
-                cut(d, &a.region, &mut self.next);
-            }
-            if self.next.len() > MOST {
+            self.take(&a.region);
+            if self.pieces.len() > MOST {
                 return Err(6);
             }
-            std::mem::swap(&mut self.pieces, &mut self.next);
         }
         self.boxes += self.pieces.len();
         if self.boxes <= MOST {
