@@ -30,32 +30,32 @@ mul-w c = search needs
 array-read-w : tie.Need-array-read-w Inv-loop μ-loop
 array-read-w c = search needs
 
+add-number-at : tie.Need-add-number-at Inv-loop μ-loop
+add-number-at c =
+    let z = size-step widths (c .before .loop .k) (omega arith) in
+    omega arith
+
 number-at-requires : tie.Need-number-at-requires Inv-loop μ-loop
 number-at-requires c κs =
     let z = size-step widths (c .before .loop .k) (omega arith) in
     (omega arith, width-at (c .before .loop .k) (omega arith))
-
-mul-low : tie.Need-mul-low Inv-loop μ-loop
-mul-low c = search needs
-
-array-write-low : tie.Need-array-write-low Inv-loop μ-loop
-array-write-low c = search needs
-
-add-number-at : tie.Need-add-number-at Inv-loop μ-loop
-add-number-at c =
-    let z = size-step widths (c .before .before .loop .k) (omega arith) in
-    omega arith
-
-number-at-requires-2 : tie.Need-number-at-requires-2 Inv-loop μ-loop
-number-at-requires-2 c κs =
-    let z = size-step widths (c .before .before .loop .k) (omega arith) in
-    (omega arith, width-at (c .before .before .loop .k) (omega arith))
 
 mul-high : tie.Need-mul-high Inv-loop μ-loop
 mul-high c = search needs
 
 array-write-high : tie.Need-array-write-high Inv-loop μ-loop
 array-write-high c = search needs
+
+number-at-requires-2 : tie.Need-number-at-requires-2 Inv-loop μ-loop
+number-at-requires-2 c κs =
+    let z = size-step widths (c .before .before .loop .k) (omega arith) in
+    (omega arith, width-at (c .before .before .loop .k) (omega arith))
+
+mul-low : tie.Need-mul-low Inv-loop μ-loop
+mul-low c = search needs
+
+array-write-low : tie.Need-array-write-low Inv-loop μ-loop
+array-write-low c = search needs
 
 add-p : tie.Need-add-p Inv-loop μ-loop
 add-p c =
@@ -83,7 +83,7 @@ loop-again c =
       search needs,
       search needs,
       omega arith,
-      read-next widths (h .k) t s (h .low) (h .high) (h .p) (c .before .number-at .result) (c .number-at2 .result) _ (cc) (omega arith) (c .before .number-at .ensures) (c .number-at2 .ensures) (h .inv .4),
+      read-next widths (h .k) t s (h .low) (h .high) (h .p) (c .number-at2 .result) (c .before .number-at .result) _ (cc) (omega arith) (c .number-at2 .ensures) (c .before .number-at .ensures) (h .inv .4),
     )
 
 returns : tie.Need-returns Inv-loop μ-loop
@@ -100,13 +100,13 @@ box-at-spec =
     loop-holds
     mul-w
     array-read-w
-    number-at-requires
-    mul-low
-    array-write-low
     add-number-at
-    number-at-requires-2
+    number-at-requires
     mul-high
     array-write-high
+    number-at-requires-2
+    mul-low
+    array-write-low
     add-p
     add-p-2
     add-k
