@@ -14,6 +14,7 @@ use Rattle.policy.specs.Ranges.{Range, range, Region}
 use Rattle.policy.specs.Values.{regionOf}
 use Rattle.policy.specs.Steps.{rangeAt, partBelow, partAbove}
 use Rattle.policy.specs.Cut.{share, shared, cut}
+use Rattle.policy.proofs.Values.{range-read}
 use Rattle.policy.proofs.Rest.{rest, rest-all, rest-field, rest-done}
 use Rattle.wire.specs.Records.{boxBytes}
 use Rattle.groups.specs.Steps.{places, most, Stored, LaterStand, CutAt, FieldCut}
@@ -148,7 +149,7 @@ module _ {half : ℕ} {work₀ : List ℕ} {n : ℕ} {d a : Region} {work : List
       few = omega (arith, g .few);
       before = before;
       inside = t;
-      own = (λ i. range (el i) (eh i)) ∙ sym (own-range g t);
+      own = range-read d k el eh ∙ sym (own-range g t);
       later = cutting-later g t at before written;
     },
     omega (arith, g .few),

@@ -66,11 +66,6 @@ unfolding sums
 one-if x true r = omega arith
 one-if x false r = refl
 
-sums-append : (x : ℕ) (l k : List Range) → sums x (l ++ k) ≡ sums x l + sums x k
-unfolding sums
-sums-append x [] k = omega arith
-sums-append x (r ∷ l) k = let h = sums-append x l k in omega arith
-
 -- a part that is there if a < b
 part-fact : (a b x : ℕ) (r : Range) → (ltb a b && within x r) ≡ true → (a < b) × (r .low ≤ x) × (x ≤ r .high)
 part-fact a b x r h =
@@ -169,11 +164,7 @@ join : (wr ws ip ia : Bool) (m n : ℕ) → m + n ≡ one (wr && not ws)
 join wr ws false ia m n h = none (wr && ws) (wr && false && not (ws && ia)) (last wr (ws && ia))
   where
     none : (u v : Bool) → v ≡ false → 0 + (0 + cond u 0 0) ≡ one v
-    none u v e = rw e (zero u)
-      where
-        zero : (u : Bool) → 0 + (0 + cond u 0 0) ≡ 0
-        zero true = refl
-        zero false = refl
+    none u v e = rw e (let z = cond-zero u in omega arith)
 
     last : (u v : Bool) → (u && false && not v) ≡ false
     last true v = refl
@@ -220,12 +211,13 @@ pieces-inside (r ∷ d) (s ∷ a) u v e =
     high false g m = tt
     high true g m = let l = ltb-true (s .high) (r .high) g in (((omega arith, u .1), (omega arith, omega arith, within-self d)), tt)
 
--- at most two pieces for each field
+-- the pieces of the first field, and of the later ones
 pub pieces-length : (r s : Range) (d a : Region) → length (pieces (r ∷ d) (s ∷ a)) ≡ length (lowPart r s) + (length (highPart r s) + length (pieces d a))
 unfolding pieces
 pieces-length r s d a =
     rw (length-append, length-append, length-map (lowPart r s) (before d), length-map (highPart r s) (before d), length-map (pieces d a) (_∷_ (shared r s)))
 
+-- at most two pieces for each field
 pieces-few : (d a : Region) → length (pieces d a) ≤ 2 * length d
 unfolding pieces
 pieces-few [] a = omega arith
@@ -245,7 +237,7 @@ pieces-itself (r ∷ b) = rw (le-ltb (r .low) (r .low) (omega arith), le-ltb (r 
 
 -- A packet that both boxes have is shared; a packet of d is not in a where they share none; a box that is never empty shares
 -- packets with itself.
-pub share-of : (p : Packet) (d a : Region) → inside p d ≡ true → inside p a ≡ true → share d a ≡ true
+share-of : (p : Packet) (d a : Region) → inside p d ≡ true → inside p a ≡ true → share d a ≡ true
 unfolding inside everyBoth
 share-of [] [] [] h k = refl
 share-of [] [] (s ∷ a) h k = k

@@ -12,7 +12,7 @@ use lib.Dec.{ltb}
 use lib.ListN.{length}
 use borrow.Author.Tests.{ltb-true, not-true}
 use Rattle.lists.specs.Lists.{everyBoth}
-use Rattle.lists.proofs.Tests.{and-true, and-both, or-false}
+use Rattle.lists.proofs.Tests.{and-true, and-both, and-false, or-false}
 use Rattle.lists.proofs.Lists.{some-few}
 use Rattle.policy.specs.Ranges.{Range, range, Region, Packet, within, inside, Whole}
 use Rattle.policy.specs.Cut.{meets, share, pieces, anyHas}
@@ -71,11 +71,7 @@ at-most-one false true true true between e = absurd (false≢true (between refl 
 at-most-one false true false true between e = omega arith
 at-most-one false false true true between e = omega arith
 at-most-one false false false true between e = omega arith
-at-most-one u v w false between e = let a = none v in let b = none w in let c = one-le u in omega arith
-  where
-    none : (t : Bool) → one (t && false) ≡ 0
-    none true = refl
-    none false = refl
+at-most-one u v w false between e = let a = ap one (and-false v) in let b = ap one (and-false w) in let c = one-le u in omega arith
 
 -- All boxes, where none has the corner.
 module _ (x y z : ℕ) (c : Packet) (between : (q : Range) → within y q ≡ true → within z q ≡ true → within x q ≡ true) where

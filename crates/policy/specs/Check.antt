@@ -12,6 +12,7 @@ use Rattle.policy.specs.Move.{slotsOf, Pair, moved, work}
 abbrev pub sameRange : Range → Range → Bool
 sameRange r s = eqb (r .low) (s .low) && eqb (r .high) (s .high)
 
+-- As many groups, in each as many boxes, and the same ranges.
 unfoldable pub sameGroups : List (List Region) → List (List Region) → Bool
 sameGroups gs hs = everyBoth (everyBoth (everyBoth sameRange)) gs hs
 

@@ -42,14 +42,15 @@ Within [] (s ∷ d) = ⊥
 Within (r ∷ b) [] = ⊥
 Within (r ∷ b) (s ∷ d) = (s .low ≤ r .low) × (r .high ≤ s .high) × Within b d
 
--- A box by its fields' highest values, as many as it has ranges: no low is above its high, and no high above its field's highest.
+-- A range is proper by its field's highest value if its low is not above its high, and its high not above the highest; a box, if it
+-- has one such range for each highest value.
 abbrev pub properRange : ℕ → Range → Bool
 properRange h r = leb (r .low) (r .high) && leb (r .high) h
 
 abbrev pub proper : List ℕ → Region → Bool
 proper hs b = everyBoth properRange hs b
 
--- A range is full if it has every value of its field; a box, if all its ranges are.
+-- A range is full if it has every value of its field; a box, if it has one such range for each highest value.
 abbrev pub fullRange : ℕ → Range → Bool
 fullRange h r = eqb (r .low) 0 && eqb (r .high) h
 

@@ -137,8 +137,8 @@ pub fn put_count(out: &mut [u8], at: usize, n: usize)
     put_two(out, at, n as u32);
 }
 
-// The box whose bytes begin at a place. A high is read before its low, and so the compiler also compares it first: a piece that an
-// allow misses lies below it more often than above.
+// The box whose bytes begin at a place. A high is read before its low, and so the compiler also compares it first: one compare less for
+// a piece that lies below an allow, one more for a piece above it.
 pub fn box_at(s: &[u8], at: usize) -> Box
     requires { ⌜ at + boxSize ≤ length (now s) ⌝ }
     ensures { λ r. ⌜ regionOf r ≡ boxIn (drop at (now (s .entry))) ⌝ }

@@ -6,9 +6,10 @@ use Prim.Native.Nat.{_-_, _≤_}
 use lib.ListN.{length, drop}
 use Rattle.lists.proofs.Both.{both-fails, both-passes, both-done}
 use Rattle.policy.specs.Fields.{fields}
-use Rattle.policy.specs.Ranges.{range}
+use Rattle.policy.specs.Ranges.{range, Region}
 use Rattle.policy.specs.Cut.{meets, share}
 use Rattle.policy.specs.Values.{regionOf}
+use Rattle.policy.specs.Steps.{rangeAt}
 use Rattle.policy.proofs.Values.{ranges-length, range-read}
 use Rattle.policy.proofs.Box.shares.Statement.{statement}
 use Rattle.policy.proofs.Box.shares.Tie as tie
@@ -46,16 +47,27 @@ high-at-requires-2 c κs = search needs
 ranges-meet-requires : tie.Need-ranges-meet-requires Inv-loop μ-loop
 ranges-meet-requires c κs = search needs
 
+module _ (x : tie.After-ranges-meet Inv-loop μ-loop) where
+  abbrev turn : tie.At-loop Inv-loop μ-loop
+  turn = x .before .before .before .before .before .before
+
+  abbrev d : Region
+  d = regionOf (turn .before .args .self)
+
+  abbrev a : Region
+  a = regionOf (turn .before .args .a)
+
+  tested : x .ranges-meet .result ≡ meets (rangeAt d (turn .loop .k)) (rangeAt a (turn .loop .k))
+  tested =
+      let k = turn .loop .k in
+      x .ranges-meet .ensures
+      ∙ ap₂ meets (range-read d k (x .before .before .before .before .low-at .ensures .0) (x .before .before .before .high-at .ensures .0)) (range-read a k (x .before .before .low-at2 .ensures .0) (x .before .high-at2 .ensures .0))
+
 returns : tie.Need-returns Inv-loop μ-loop
 returns c =
     let x = c .before in
-    let s = c .before .before .before .before .before .before .before .loop in
-    let q = c .before .before .before .before .before .before .before .before .args in
-    let d = regionOf (q .self) in
-    let a = regionOf (q .a) in
-    both-fails meets d a (s .k) (s .inv .3) (range 0 0) (range 0 0) (omega arith) (omega arith)
-    (x .ranges-meet .ensures ∙ ap₂ meets (range-read d (s .k) (x .before .before .before .before .low-at .ensures .0) (x .before .before .before .high-at .ensures .0)) (range-read a (s .k) (x .before .before .low-at2 .ensures .0) (x .before .high-at2 .ensures .0)))
-    (c .if1 .taken)
+    let s = turn x .loop in
+    both-fails meets (d x) (a x) (s .k) (s .inv .3) (range 0 0) (range 0 0) (omega arith) (omega arith) (tested x) (c .if1 .taken)
 
 add-k : tie.Need-add-k Inv-loop μ-loop
 add-k c = search needs
@@ -66,16 +78,11 @@ loop-less c = search needs
 loop-again : tie.Need-loop-again Inv-loop μ-loop
 loop-again c =
     let x = c .before in
-    let s = c .before .before .before .before .before .before .before .loop in
-    let q = c .before .before .before .before .before .before .before .before .args in
-    let d = regionOf (q .self) in
-    let a = regionOf (q .a) in (
+    let s = turn x .loop in (
       omega arith,
       s .inv .1,
       s .inv .2,
-      both-passes meets d a (s .k) (s .inv .3) (range 0 0) (range 0 0) (omega arith) (omega arith)
-          (x .ranges-meet .ensures ∙ ap₂ meets (range-read d (s .k) (x .before .before .before .before .low-at .ensures .0) (x .before .before .before .high-at .ensures .0)) (range-read a (s .k) (x .before .before .low-at2 .ensures .0) (x .before .high-at2 .ensures .0)))
-          (c .if1 .left),
+      both-passes meets (d x) (a x) (s .k) (s .inv .3) (range 0 0) (range 0 0) (omega arith) (omega arith) (tested x) (c .if1 .left),
     )
 
 returns-2 : tie.Need-returns-2 Inv-loop μ-loop
