@@ -6,7 +6,6 @@ use native.Mathlib.Omega.{arith}
 use lib.ListN.{length, take, drop, length-append}
 use lib.Seq.{sets, take-all, drop-at, length-sets, length-take-le}
 use Rattle.lists.proofs.Lists.{take-sets, sets-parts}
-use Rattle.policy.specs.Fields.{limits}
 use Rattle.wire.specs.Buffers.{zeroed, filled}
 use Rattle.wire.specs.Lists.{listSize}
 use Rattle.wire.proofs.Buffers.{filled-is}
@@ -26,8 +25,8 @@ module _ {s list : List ℕ} {start count used renewed : ℕ} (h : PutReady s st
   room-ready = record { more = h .more; less = h .less; front = omega arith; old = omega (arith, h .inside, h .old, h .room); new = omega (arith, h .new, h .room) }
 
   pub list-put : (s₁ s₂ s₃ : List ℕ) (end last : ℕ) → s₁ ≡ sets s (movedTo next count renewed) (take behind (drop next s)) → (end ≡ start + length list) × (s₂ ≡ sets s₁ start list)
-      → last ≡ end + behind → s₃ ≡ zeroed last (pairSize limits) s₂
-      → (last ≡ length (withList s start count used list)) × (s₃ ≡ filled (pairSize limits) s (withList s start count used list))
+      → last ≡ end + behind → s₃ ≡ zeroed last pairSize s₂
+      → (last ≡ length (withList s start count used list)) × (s₃ ≡ filled pairSize s (withList s start count used list))
   list-put s₁ s₂ s₃ end last e₁ e₂ el e₃ =
       let t : List ℕ = take behind (drop next s) in
       let lt : length t ≡ behind = part-long room-ready in
@@ -43,4 +42,4 @@ module _ {s list : List ℕ} {start count used renewed : ℕ} (h : PutReady s st
       let lc : length c ≡ last = rw (length-append (take start s) (list ++ t), length-append list t, length-take-le start s (omega (arith, e₂ .0))) (omega (arith, e₂ .0)) in
       let m : end + length t ≡ last = omega arith in
       let u : s₂ ≡ take last c ++ drop last s = f ∙ rw (m, take-all last c (omega arith)) in
-      (sym lc, filled-is c s s₂ s₃ last (pairSize limits) (sym lc) (omega (arith, e₂ .0, h .new, h .size)) (h .room) u e₃)
+      (sym lc, filled-is c s s₂ s₃ last pairSize (sym lc) (omega (arith, e₂ .0, h .new, h .size)) (h .room) u e₃)

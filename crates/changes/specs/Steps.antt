@@ -6,7 +6,7 @@ use Prim.Native.Nat.{ℕ, _+_, _*_, _-_, _≤_}
 use lib.Dec.{leb}
 use lib.ListN.{length, take, drop}
 use lib.Seq.{sets}
-use Rattle.policy.specs.Fields.{countSize, recordSize, limits}
+use Rattle.policy.specs.Fields.{countSize, recordSize}
 use Rattle.policy.specs.Refusals.{Outcome, accepted, refused, test, said}
 use Rattle.policy.specs.Edit.{out, put}
 use Rattle.policy.specs.declared.Answer.{Answer}
@@ -66,9 +66,9 @@ pub record PutReady (sheet : List ℕ) (start count used : ℕ) (list : List ℕ
   pub more : renewed ≤ count + 1
   pub less : count ≤ renewed + 1
   pub inside : start + listSize count ≤ used
-  pub old : used ≤ pairSize limits
-  pub new : start + listSize renewed + (used - (start + listSize count)) ≤ pairSize limits
-  pub room : pairSize limits ≤ length sheet
+  pub old : used ≤ pairSize
+  pub new : start + listSize renewed + (used - (start + listSize count)) ≤ pairSize
+  pub room : pairSize ≤ length sheet
 
 -- Whether an allow is taken out of A or put in, at the place.
 unfoldable pub touched : ℕ → Change → List Rule → List Rule → Bool

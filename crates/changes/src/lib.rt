@@ -101,7 +101,7 @@ pub fn put_list(
     renewed: usize,
 ) -> usize
     requires { ⌜ PutReady (now sheet) start count used (now list) renewed ⌝ }
-    ensures { λ r. ⌜ (r ≡ length (withList (now (sheet .entry)) start count used (now (list .entry)))) × (now (sheet .exit) ≡ filled (pairSize limits) (now (sheet .entry)) (withList (now (sheet .entry)) start count used (now (list .entry)))) ⌝ }
+    ensures { λ r. ⌜ (r ≡ length (withList (now (sheet .entry)) start count used (now (list .entry)))) × (now (sheet .exit) ≡ filled pairSize (now (sheet .entry)) (withList (now (sheet .entry)) start count used (now (list .entry)))) ⌝ }
 {
     let next = start + (COUNT_BYTES + RECORD_BYTES * count);
     let behind = used - next;

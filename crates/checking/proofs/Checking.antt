@@ -32,7 +32,7 @@ use Rattle.planner.proofs.Good.{moved-good}
 use Rattle.planner.proofs.Calls.{room-there}
 use Rattle.checking.proofs.Drafting.{draft-over, draft-light, draft-boxes, draft-moves, draft-end, draft-content}
 
-pub check-refused : {s : List ℕ} {f : Refusal} → pairIn limits s ≡ refused (numberOf f) → CheckRead s (P.Fault f)
+pub check-refused : {s : List ℕ} {f : Refusal} → pairIn limits s ≡ refused (numberOf f) → CheckRead s (P.Refused f)
 unfolding checkOf pairHeard PairPlaced
 check-refused e = record { says = rw e; place = tt }
 
@@ -57,22 +57,22 @@ module _ {s : List ℕ} {n m middle third boxes : ℕ} (a : PairAccepted s n m m
   lists-inside = omega (arith, a .place .lists .gateEnd, a .place .lists .ownEnd, a .place .lists .inside)
 
   module _ (rules : List ℕ) (is : rules ≡ drop countSize s) {draft w draft′ w′ : List ℕ} where
-    pub check-six : DraftedGroups rules 0 n draft 0 0 w D.TooManyPieces draft′ w′ → CheckRead s (P.Fault TooManyPieces)
+    pub check-six : DraftedGroups rules 0 n draft 0 0 w D.TooManyPieces draft′ w′ → CheckRead s (P.Refused TooManyPieces)
     unfolding checkOf checkedOf checkRefusal work pairHeard PairPlaced
     check-six x = record { says = rw (a .reads, draft-over a rules is x); place = tt }
 
     module _ {b end : ℕ} (x : DraftedGroups rules 0 n draft 0 0 w (D.Groups b end) draft′ w′) where
-      differs : (p .groups ≡ moved o .groups → ⊥) → CheckRead s (P.Fault GroupsDiffer)
+      differs : (p .groups ≡ moved o .groups → ⊥) → CheckRead s (P.Refused GroupsDiffer)
       unfolding checkOf checkedOf checkRefusal work pairHeard PairPlaced
       differs f =
           let e = test-fails (sameGroups (p .groups) (moved o .groups)) (λ t. f (groups-sound (p .groups) (moved o .groups) t)) in
           record { says = rw (a .reads, draft-light a rules is x, e); place = tt }
 
-      pub check-long : draftSize limits ≤ length draft → b ≡ boxes → end ≤ length draft
+      pub check-long : draftSize ≤ length draft → b ≡ boxes → end ≤ length draft
       check-long roomy h = draft-end a rules is x (omega (arith, a .place .totalLimit)) roomy
 
       -- the two pairs have the same bytes, and each is read back from them
-      module _ (roomy : draftSize limits ≤ length draft) where
+      module _ (roomy : draftSize ≤ length draft) where
         content : b ≡ boxes → take end draft′ ≡ groupsBytes (moved o .groups)
         content h = draft-content a rules is x (omega (arith, a .place .totalLimit)) roomy
 
@@ -89,7 +89,7 @@ module _ {s : List ℕ} {n m middle third boxes : ℕ} (a : PairAccepted s n m m
             cc
 
         module _ {t : Bool} (found : SameGroups s (third + countSize) boxes draft′ b end t) where
-          pub check-differs : t ≡ false → CheckRead s (P.Fault GroupsDiffer)
+          pub check-differs : t ≡ false → CheckRead s (P.Refused GroupsDiffer)
           check-differs f =
               differs (λ e.
               let h : b ≡ boxes = draft-boxes a rules is x ∙ (ap (λ (g : List (List Region)). length (together g)) (sym e) ∙ sym (a .place .boxesAre)) in
@@ -105,18 +105,18 @@ module _ {s : List ℕ} {n m middle third boxes : ℕ} (a : PairAccepted s n m m
 
 -- The call: 1 unless the work buffer is long enough, then what the check came to.
 module _ (s w : List ℕ) where
-  pub check-short : length w < workSize limits → Checks s w (Refused BufferShort) w
+  pub check-short : length w < workSize → Checks s w (Refused BufferShort) w
   unfolding roomFor workAfter answered
-  check-short h = let e = lt-leb (workSize limits) (length w) h in record { answer = rw e; work = rw e }
+  check-short h = let e = lt-leb workSize (length w) h in record { answer = rw e; work = rw e }
 
-  module _ (h : workSize limits ≤ length w) {w′ : List ℕ} (e : w′ ≡ zeroed 0 (workSize limits) w) where
-    pub check-no : {f : Refusal} → CheckRead s (P.Fault f) → Checks s w (Refused f) w′
+  module _ (h : workSize ≤ length w) {w′ : List ℕ} (e : w′ ≡ zeroed 0 workSize w) where
+    pub check-no : {f : Refusal} → CheckRead s (P.Refused f) → Checks s w (Refused f) w′
     unfolding workAfter answered pairHeard
-    check-no x = let l = room-there (workSize limits) w h in record { answer = rw (l, ← x .says); work = rw l e }
+    check-no x = let l = room-there workSize w h in record { answer = rw (l, ← x .says); work = rw l e }
 
     pub check-yes : {n m middle third boxes : ℕ} → CheckRead s (P.Parts n m middle third boxes) → Checks s w (Length 0) w′
     unfolding workAfter answered pairHeard
-    check-yes x = let l = room-there (workSize limits) w h in record { answer = rw (l, ← x .says); work = rw l e }
+    check-yes x = let l = room-there workSize w h in record { answer = rw (l, ← x .says); work = rw l e }
 
   pub check-once : {r q : Answer} {u v : List ℕ} → Checks s w r u → Checks s w q v → (r ≡ q) × (u ≡ v)
   check-once {r = r} {q = q} x y = (said-once r q (x .answer ∙ sym (y .answer)), x .work ∙ sym (y .work))

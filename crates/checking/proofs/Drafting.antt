@@ -17,7 +17,7 @@ use Rattle.wire.specs.Records.{eachIn}
 use Rattle.wire.proofs.Records.{rulesIn-length}
 use Rattle.sheet.specs.Pairs.{groupsBytes}
 use Rattle.sheet.specs.Steps.{rulesOf, listsOf}
-use Rattle.sheet.proofs.Outcomes.{faultless}
+use Rattle.sheet.proofs.Outcomes.{readable}
 use Rattle.sheet.proofs.Accepted.{PairAccepted}
 use Rattle.sheet.proofs.Pairs.{ProperGroup, denies-most}
 use Rattle.lists.specs.Lists.{Each}
@@ -36,10 +36,10 @@ module _ {s : List ℕ} {n m middle third boxes : ℕ} (a : PairAccepted s n m m
   unfolding eachIn allowsIn
   whole rules e = rw e
 
-  pub draft-ready : (rules draft w : List ℕ) → rules ≡ drop countSize s → draftSize limits ≤ length draft → workSize limits ≤ length w → Ready rules 0 n draft 0 0 w
+  pub draft-ready : (rules draft w : List ℕ) → rules ≡ drop countSize s → draftSize ≤ length draft → workSize ≤ length w → Ready rules 0 n draft 0 0 w
   draft-ready rules draft w e d k =
       let p = a .place .lists in
-      let f = faultless (limits .gate) (rulesOf n s) (a .good .gate) in
+      let f = readable (limits .gate) (rulesOf n s) (a .good .gate) in
       record {
         records = rw (e, length-drop) (omega (arith, p .gateEnd, p .ownEnd, p .inside));
         rulesSound = rw e (f .sounds);
@@ -72,7 +72,7 @@ module _ {s : List ℕ} {n m middle third boxes : ℕ} (a : PairAccepted s n m m
             let t : length (together (moved o .groups)) + length (o .own) ≤ limits .total = omega (arith, draft-boxes, rulesIn-length m (drop countSize (drop middle s))) in
             orElse-both _ _ (a .good .gate) (orElse-both _ _ (a .good .own) (rw (draft-light, le-ltb _ _ t)))
 
-        module _ (roomy : draftSize limits ≤ length draft) where
+        module _ (roomy : draftSize ≤ length draft) where
           proper : Each ProperGroup (moved o .groups)
           proper = moved-good limits o draft-moves .groups .boxes
 

@@ -10,7 +10,7 @@ ghost use mathlib.Core.Path.{_≡_};
 ghost use mathlib.Core.Bool.{true};
 ghost use Prim.Native.Nat.{_≤_};
 ghost use lib.ListN.{length, drop};
-ghost use Rattle.policy.specs.Fields.{limits, workSize};
+ghost use Rattle.policy.specs.Fields.{workSize};
 ghost use Rattle.wire.specs.Buffers.{zeroed};
 ghost use Rattle.draft.specs.Steps.{draftSize};
 ghost use Rattle.planner.specs.Calls.{Checks};
@@ -48,11 +48,11 @@ fn is_same(sheet: &[u8], from: usize, boxes: usize, draft: &[u8], drawn: usize, 
 
 // The pair sheet read, its groups drafted anew, and the draft compared with section C.
 fn compare(sheet: &[u8], draft: &mut [u8], work: &mut [u8]) -> PairParts
-    requires { ⌜ (draftSize limits ≤ length (now draft)) × (workSize limits ≤ length (now work)) ⌝ }
-    ensures { λ r. ⌜ CheckRead (now (sheet .entry)) r × (drop (workSize limits) (now (work .exit)) ≡ drop (workSize limits) (now (work .entry))) ⌝ }
+    requires { ⌜ (draftSize ≤ length (now draft)) × (workSize ≤ length (now work)) ⌝ }
+    ensures { λ r. ⌜ CheckRead (now (sheet .entry)) r × (drop workSize (now (work .exit)) ≡ drop workSize (now (work .entry))) ⌝ }
 {
     match sheet::read_pair(sheet) {
-        PairParts::Fault(f) => PairParts::Fault(f),
+        PairParts::Refused(f) => PairParts::Refused(f),
         PairParts::Parts {
             gate,
             own,
@@ -60,11 +60,11 @@ fn compare(sheet: &[u8], draft: &mut [u8], work: &mut [u8]) -> PairParts
             third,
             boxes,
         } => match draft::draft_groups(&sheet[COUNT_BYTES..], 0, gate, draft, 0, 0, work) {
-            Drafted::TooManyPieces => PairParts::Fault(Refusal::TooManyPieces),
+            Drafted::TooManyPieces => PairParts::Refused(Refusal::TooManyPieces),
             Drafted::Groups { boxes: drawn, end } => {
                 let from = third + COUNT_BYTES;
                 if !is_same(sheet, from, boxes, draft, drawn, end) {
-                    return PairParts::Fault(Refusal::GroupsDiffer);
+                    return PairParts::Refused(Refusal::GroupsDiffer);
                 }
                 PairParts::Parts {
                     gate,
@@ -80,8 +80,8 @@ fn compare(sheet: &[u8], draft: &mut [u8], work: &mut [u8]) -> PairParts
 
 // The parts of a pair sheet that passes check, or the refusal; the work buffer is zero at its front.
 pub fn checked(sheet: &[u8], work: &mut [u8]) -> PairParts
-    requires { ⌜ workSize limits ≤ length (now work) ⌝ }
-    ensures { λ r. ⌜ CheckRead (now (sheet .entry)) r × (now (work .exit) ≡ zeroed 0 (workSize limits) (now (work .entry))) ⌝ }
+    requires { ⌜ workSize ≤ length (now work) ⌝ }
+    ensures { λ r. ⌜ CheckRead (now (sheet .entry)) r × (now (work .exit) ≡ zeroed 0 workSize (now (work .entry))) ⌝ }
 {
     let mut draft = [0u8; DRAFT_BYTES];
     let parts = compare(sheet, &mut draft, work);
@@ -97,7 +97,7 @@ pub fn check(sheet: &[u8], work: &mut [u8]) -> Answer
         return Answer::Refused(Refusal::BufferShort);
     }
     match checked(sheet, work) {
-        PairParts::Fault(f) => Answer::Refused(f),
+        PairParts::Refused(f) => Answer::Refused(f),
         PairParts::Parts {
             gate: _,
             own: _,

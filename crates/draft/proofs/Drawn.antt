@@ -31,7 +31,7 @@ module _ {l : List Slot} {draft draft′ : List ℕ} {front : ℕ} where
     unfolding Told
     drawn-boxes = x .told .1
 
-    module _ (few : boxes ≤ limits .total) (proper : Each ProperGroup (groupsOf l)) (short : length l ≤ limits .gate) (room : draftSize limits ≤ length draft) where
+    module _ (few : boxes ≤ limits .total) (proper : Each ProperGroup (groupsOf l)) (short : length l ≤ limits .gate) (room : draftSize ≤ length draft) where
       bytes-drawn : (end ≡ 0 + length (groupsBytes (groupsOf l))) × (draft′ ≡ sets draft 0 (groupsBytes (groupsOf l)))
       unfolding Told
       bytes-drawn = x .told .2 few
@@ -52,7 +52,7 @@ pub record Behind (l : List Slot) (boxes : ℕ) (r : Drafted) (s : List ℕ) : T
 
 -- all of it, once the groups are known to be proper
 pub drawn-behind : {l : List Slot} {draft draft′ : List ℕ} {front : ℕ} (r : Drafted) → Drafting limits l draft 0 front r draft′ → length draft′ ≡ length draft
-    → Each ProperGroup (groupsOf l) → length l ≤ limits .gate → draftSize limits ≤ length draft → Behind l front r draft′
+    → Each ProperGroup (groupsOf l) → length l ≤ limits .gate → draftSize ≤ length draft → Behind l front r draft′
 unfolding Told
 drawn-behind TooManyPieces x k proper short room = record { told = drawn-over x }
 drawn-behind (Groups b n) x k proper short room = record {

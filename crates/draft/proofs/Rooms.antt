@@ -7,7 +7,7 @@ use lib.ListN.{length, take, drop, length-append, length-drop, take-append-drop}
 use lib.Seq.{sets, take-all, take-at, drop-at, drop-drop, take-add, length-take-le}
 use Rattle.lists.proofs.Lists.{sets-parts}
 use Rattle.lists.proofs.Parts.{tail-whole, tail-back}
-use Rattle.policy.specs.Fields.{countSize, recordSize, limits}
+use Rattle.policy.specs.Fields.{countSize, recordSize}
 use Rattle.wire.specs.Numbers.{numberBytes}
 use Rattle.wire.specs.Buffers.{zeroed, filled}
 use Rattle.wire.specs.Steps.{copiedDown, copiedUp}
@@ -108,8 +108,8 @@ module _ {s list behind : List ℕ} {t : Standing} {size renewed groups rest : �
   -- what stands there moved, A, the count and the groups behind the first ones written, zeros behind them
   pub around-put : (c₀ c₁ c₂ c₃ last : List ℕ) (next at start end : ℕ) → c₀ ≡ sets s (movedTo middle count renewed) (take moving (drop middle s)) → (next ≡ 0 + length list) × (c₁ ≡ sets c₀ 0 list)
       → at ≡ next + (third - middle) → c₂ ≡ sets c₁ at number → start ≡ at + countSize + size → c₃ ≡ sets c₂ start behind → end ≡ start + length behind
-      → last ≡ zeroed end (pairSize limits) c₃
-      → (end ≡ length content) × (last ≡ filled (pairSize limits) s content)
+      → last ≡ zeroed end pairSize c₃
+      → (end ≡ length content) × (last ≡ filled pairSize s content)
   around-put c₀ c₁ c₂ c₃ last next at start end e₀ e₁ ea e₂ es e₃ ee el =
       let k = h .fits in
       let m = h .room in
@@ -146,4 +146,4 @@ module _ {s list behind : List ℕ} {t : Standing} {size renewed groups rest : �
       ∙ sym (append-assoc (list ++ own) (number ++ (front ++ behind)) z) in
       let cl : end ≡ length content = omega (arith, content-long, e₁ .0) in
       let u : c₃ ≡ take end content ++ drop end s = q₃ ∙ ap (λ (l : List ℕ). l ++ z) (sym (take-all end content (omega arith))) in
-      (cl, filled-is content s c₃ last end (pairSize limits) cl (omega (arith, e₁ .0)) m u el)
+      (cl, filled-is content s c₃ last end pairSize cl (omega (arith, e₁ .0)) m u el)

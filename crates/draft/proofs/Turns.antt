@@ -103,7 +103,7 @@ pub record Going (rules : List ℕ) (from to : ℕ) (draft₀ : List ℕ) (at bo
   pub long : length draft ≡ length draft₀
   pub workLong : length work ≡ length work₀
   pub bounded : Bounded i sum end
-  pub beyond : drop (workSize limits) work ≡ drop (workSize limits) work₀
+  pub beyond : drop workSize work ≡ drop workSize work₀
   pub onward : (r : Drafted) (last : List ℕ) → Drafting limits (stretch i to rules) draft end sum r last → Drafting limits (stretch from to rules) draft₀ at boxes r last
 
 module _ {rules : List ℕ} {from to : ℕ} {draft₀ : List ℕ} {at boxes : ℕ} {work₀ : List ℕ} (ready : Ready rules from to draft₀ at boxes work₀) where

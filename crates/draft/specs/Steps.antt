@@ -22,8 +22,8 @@ use Rattle.wire.specs.Lists.{countIn}
 use Rattle.draft.specs.declared.kept.Standing.{Standing}
 
 -- The bytes that a draft takes at most: a count for each gate rule, and boxes up to the total.
-abbrev pub draftSize : Limits → ℕ
-draftSize lim = countSize * lim .gate + boxSize * lim .total
+abbrev pub draftSize : ℕ
+draftSize = countSize * limits .gate + boxSize * limits .total
 
 -- The slots of the deny rules from one place up to another of these records, all worked out anew.
 abbrev pub stretch : ℕ → ℕ → List ℕ → List Slot
@@ -67,21 +67,21 @@ pub record Ready (rules : List ℕ) (from to : ℕ) (draft : List ℕ) (at boxes
   pub rulesSound : every sound (rulesIn to rules) ≡ true
   pub upTo : from ≤ to
   pub gate : to ≤ limits .gate
-  pub room : draftSize limits ≤ length draft
+  pub room : draftSize ≤ length draft
   pub start : Bounded from boxes at
-  pub workRoom : workSize limits ≤ length work
+  pub workRoom : workSize ≤ length work
 
 -- What it answers and leaves: the draft, and nothing changed behind the work buffer's front.
 pub record DraftedGroups (rules : List ℕ) (from to : ℕ) (draft : List ℕ) (at boxes : ℕ) (work : List ℕ) (r : Drafted) (draft′ work′ : List ℕ) : Type 0 where
   pub drafting : Drafting limits (stretch from to rules) draft at boxes r draft′
   pub ends : Ends to r
-  pub beyond : drop (workSize limits) work′ ≡ drop (workSize limits) work
+  pub beyond : drop workSize work′ ≡ drop workSize work
 
 -- The bytes that the first n groups of these take.
 abbrev pub runSize : ℕ → List ℕ → ℕ
 runSize n s = countSize * n + boxSize * boxCount n s
 
--- Groups that were read without fault stand at the front of these bytes.
+-- Groups that were accepted stand at the front of these bytes.
 pub record GroupsHeld (s : List ℕ) (n : ℕ) : Type 0 where
   pub boxes : Each (λ (g : List Region). every (proper highest) g ≡ true) (groupsFrom n s)
   pub bytes : groupsBytes (groupsFrom n s) ≡ take (runSize n s) s
@@ -158,5 +158,5 @@ pub record AroundPut (sheet : List ℕ) (t : Standing) (size : ℕ) (list : List
   pub moved : length list ≡ movedTo (t .middle) (t .count) gate
   pub laid : Laid rest behind
   pub few : groups < 65536
-  pub fits : length list + (t .third - t .middle) + countSize + size + length behind ≤ pairSize limits
-  pub room : pairSize limits ≤ length sheet
+  pub fits : length list + (t .third - t .middle) + countSize + size + length behind ≤ pairSize
+  pub room : pairSize ≤ length sheet

@@ -8,7 +8,6 @@ ghost use mathlib.Core.Path.{_≡_};
 ghost use Prim.Native.Nat.{_+_, _≤_};
 ghost use lib.ListN.{length, take, drop};
 ghost use lib.Seq.{sets};
-ghost use Rattle.policy.specs.Fields.{limits};
 ghost use Rattle.wire.specs.Buffers.{filled};
 ghost use Rattle.sheet.specs.Pairs.{pairSize};
 ghost use Rattle.draft.specs.Steps.{runSize, sheetAround, movedTo, RoomReady, AroundPut};
@@ -91,7 +90,7 @@ pub fn put_around(
     behind: &[u8],
 ) -> usize
     requires { ⌜ AroundPut (now sheet) stands size (now list) gate groups rest (now behind) ⌝ }
-    ensures { λ r. ⌜ (r ≡ length (sheetAround (now (sheet .entry)) stands size (now (list .entry)) groups (now (behind .entry)))) × (now (sheet .exit) ≡ filled (pairSize limits) (now (sheet .entry)) (sheetAround (now (sheet .entry)) stands size (now (list .entry)) groups (now (behind .entry)))) ⌝ }
+    ensures { λ r. ⌜ (r ≡ length (sheetAround (now (sheet .entry)) stands size (now (list .entry)) groups (now (behind .entry)))) × (now (sheet .exit) ≡ filled pairSize (now (sheet .entry)) (sheetAround (now (sheet .entry)) stands size (now (list .entry)) groups (now (behind .entry)))) ⌝ }
 {
     let middle = stands.middle;
     let own = stands.third - middle;

@@ -24,10 +24,10 @@ no-list-read {s} x n m middle third boxes e =
     rw a
 
 pub no-list : (s : List ℕ) (q : Asked) → 1 < q .list → {sheet w : List ℕ} {r : Answer} → said r ≡ andThen (pairIn limits s) (λ (p : Pair). refused 9)
-    → Writes pairBytes (pairSize limits) (editedOf limits s q) sheet w r sheet w
+    → Writes pairBytes pairSize (editedOf limits s q) sheet w r sheet w
 unfolding editedOf changeOf lengthOf written
 no-list s q h {sheet} {w} {r} e = go (pairIn limits s) e
   where
-    go : (x : Outcome Pair) → said r ≡ andThen x (λ (p : Pair). refused 9) → Writes pairBytes (pairSize limits) (andThen x (changeOf limits q)) sheet w r sheet w
+    go : (x : Outcome Pair) → said r ≡ andThen x (λ (p : Pair). refused 9) → Writes pairBytes pairSize (andThen x (changeOf limits q)) sheet w r sheet w
     go (accepted p) k = rw (lt-leb (q .list) 1 h) (record { answer = k; result = refl; beyond = refl })
     go (refused n) k = record { answer = k; result = refl; beyond = refl }

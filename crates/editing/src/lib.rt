@@ -19,7 +19,7 @@ fn refuse_list(pair: &[u8]) -> Answer
     ensures { λ r. ⌜ said r ≡ andThen (pairIn limits (now (pair .entry))) (λ p. refused 9) ⌝ }
 {
     match sheet::read_pair(pair) {
-        PairParts::Fault(f) => Answer::Refused(f),
+        PairParts::Refused(f) => Answer::Refused(f),
         PairParts::Parts {
             gate: _,
             own: _,
@@ -39,7 +39,7 @@ fn revise(
     new: &[u8],
     work: &mut [u8],
 ) -> Answer
-    requires { ⌜ (pairSize limits ≤ length (now sheet)) × (used ≤ length (now sheet)) × (workSize limits ≤ length (now work)) ⌝ }
+    requires { ⌜ (pairSize ≤ length (now sheet)) × (used ≤ length (now sheet)) × (workSize ≤ length (now work)) ⌝ }
     ensures { λ r. ⌜ Revised (now (sheet .entry)) used (asked list place change (now (new .entry))) (now (work .entry)) r (now (sheet .exit)) (now (work .exit)) ⌝ }
 {
     if list == 0 {

@@ -8,7 +8,7 @@ use lib.ListN.{length}
 use Rattle.policy.specs.Fields.{countSize}
 use Rattle.policy.specs.Ranges.{Packet, inside}
 use Rattle.policy.specs.Rules.{Rule, sound, Found, found, nothing, first}
-use Rattle.policy.specs.Refusals.{refusalBase, Outcome, accepted, refused, test, faults, numberOf}
+use Rattle.policy.specs.Refusals.{refusalBase, Outcome, accepted, refused, test, rulesRefusal, numberOf}
 use Rattle.filter.specs.declared.Verdict.{Verdict}
 use Rattle.filter.specs.declared.Verdict.the-variants.{Decided, Refused}
 use Rattle.wire.specs.Lists.{countIn, listRules, listSize, listBytes}
@@ -54,5 +54,5 @@ decidedBy nothing = refused 5
 -- In the bytes of a list without a bad rule, a lookup answers by first match.
 abbrev pub LookupTheorem : Type 0
 LookupTheorem =
-    (most : ℕ) (p : Packet) (l : List Rule) → faults l ≡ 0 → 1 ≤ length l → length l ≤ most → most < 256 ^ countSize
+    (most : ℕ) (p : Packet) (l : List Rule) → rulesRefusal l ≡ 0 → 1 ≤ length l → length l ≤ most → most < 256 ^ countSize
     → lookup most p (listBytes l) ≡ decidedBy (first p l)

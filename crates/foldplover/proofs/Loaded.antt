@@ -18,8 +18,8 @@ use Rattle.wire.specs.Lists.{listBytes}
 use Rattle.filter.specs.Lookup.{Hit, lookup, lookupNumber, decidedBy}
 use Rattle.filter.proofs.Lists.{found-small, lookup-first}
 use Rattle.sheet.specs.Pairs.{pairBytes, pairSize}
-use Rattle.sheet.proofs.Outcomes.{faultless}
-use Rattle.sheet.proofs.Orders.{list-faultless, order-faultless}
+use Rattle.sheet.proofs.Outcomes.{readable}
+use Rattle.sheet.proofs.Orders.{list-readable, order-readable}
 use Rattle.orders.proofs.Undo.{split-wrote}
 use Rattle.wire.proofs.Buffers.{filled-content}
 use Rattle.planner.specs.Calls.{bothLent, checkOf, Lists, gateBytes, gateListSize, cellBytes, cellListSize}
@@ -41,10 +41,10 @@ number-allows most (found n a) h small =
     rw (below, odd) refl
 number-allows most nothing h small = refl
 
--- in the bytes of a list without fault a filter lets through what the list allows
+-- in the bytes of a readable list a filter lets through what the list allows
 passes-list : (most : ℕ) (q : Packet) (l : List Rule) → most ≤ limits .total → listRefusal most l ≡ 0 → passes q (listBytes l) ≡ allows q l
 passes-list most q l h e =
-    let f = faultless most l e in
+    let f = readable most l e in
     let clean = list-accepted most l e .0 in
     ap (λ (x : Outcome Hit). letsThrough (lookupNumber x)) (lookup-first (limits .total) q l clean (f .few) (omega (arith, f .many)) (omega arith))
     ∙ number-allows most (first q l) (omega arith) (λ n a i. let s = found-small q l n a clean i in (omega (arith, f .many), s .1))
@@ -65,17 +65,17 @@ loaded-forwards s sheet a b gate cell bytes split move g c q =
     let p : Pair = d .1 in
     let two = d .2 in
     let is : sheet ≡ pairBytes p =
-    sym (move .is) ∙ ((λ i. take (d .3 i .used) (d .3 i .buffer)) ∙ filled-content (pairSize limits) (move .out) (pairBytes p) (length (pairBytes p)) refl) in
+    sym (move .is) ∙ ((λ i. take (d .3 i .used) (d .3 i .buffer)) ∙ filled-content pairSize (move .out) (pairBytes p) (length (pairBytes p)) refl) in
     let checks : checkOf limits sheet ≡ accepted p = ap (checkOf limits) is ∙ two .checks in
-    let f = order-faultless limits s o (two .order) in
+    let f = order-readable limits s o (two .order) in
     let k = split-wrote bytes (split .call) in
     let same : k .lists ≡ o = cc (k .reads, two .order) in
     let a-is : a ≡ listBytes (o .gate) = sym (split .contentA) ∙ (k .gate ∙ ap (λ (y : Order). listBytes (y .gate)) same) in
     let b-is : b ≡ listBytes (o .own) = sym (split .contentB) ∙ (k .own ∙ ap (λ (y : Order). listBytes (y .own)) same) in
     let old-gate : passes q a ≡ allows q (o .gate) = ap (passes q) a-is ∙ passes-list (limits .gate) q (o .gate) (omega arith) (f .0) in
     let old-cell : passes q b ≡ allows q (o .own) = ap (passes q) b-is ∙ passes-list (limits .own) q (o .own) (omega arith) (f .1) in
-    let new-gate : passes q gate ≡ allows q (gateList p) = ap (passes q) (listed-is gateBytes gateListSize sheet gate p checks g) ∙ passes-list (limits .total) q (gateList p) (omega arith) (list-faultless (limits .total) (gateBytes p) (gateList p) (two .gate)) in
-    let new-cell : passes q cell ≡ allows q (cellList p) = ap (passes q) (listed-is cellBytes cellListSize sheet cell p checks c) ∙ passes-list (limits .total) q (cellList p) (omega arith) (list-faultless (limits .total) (cellBytes p) (cellList p) (two .cell)) in
+    let new-gate : passes q gate ≡ allows q (gateList p) = ap (passes q) (listed-is gateBytes gateListSize sheet gate p checks g) ∙ passes-list (limits .total) q (gateList p) (omega arith) (list-readable (limits .total) (gateBytes p) (gateList p) (two .gate)) in
+    let new-cell : passes q cell ≡ allows q (cellList p) = ap (passes q) (listed-is cellBytes cellListSize sheet cell p checks c) ∙ passes-list (limits .total) q (cellList p) (omega arith) (list-readable (limits .total) (cellBytes p) (cellList p) (two .cell)) in
     record {
       both = rw (old-gate, old-cell, new-gate, new-cell) (two .forwarded q);
       cell-first = rw (old-gate, old-cell, new-cell) (two .cell-first q);

@@ -42,7 +42,7 @@ answered-plain n h (accepted r) = h
 answered-plain n h (refused k) = tt
 
 pub check-plain : {s w w′ : List ℕ} {q : Answer} → Checks s w q w′ → Plain (said q)
-check-plain {s = s} {w = w} x = subst Plain (sym (x .answer)) (answered-plain 0 (omega arith) (test (roomFor (workSize limits) w) 1 (checkOf limits s)))
+check-plain {s = s} {w = w} x = subst Plain (sym (x .answer)) (answered-plain 0 (omega arith) (test (roomFor workSize w) 1 (checkOf limits s)))
 
 pub read-plain : {s ns ns′ : List ℕ} {q : Answer} → RecordRead s ns q ns′ → Plain (said q)
 read-plain {s = s} {ns = ns} x = subst Plain (sym (x .answer)) (answered-plain 0 (omega arith) (readingOf s ns))
@@ -51,11 +51,11 @@ pub written-plain : {ns out out′ : List ℕ} {q : Answer} → RecordWritten ns
 written-plain {ns = ns} {out = out} x = subst Plain (sym (x .answer)) (answered-plain recordSize (omega arith) (writingOf ns out))
 
 -- Split: the A list is within its buffer.
-split-small : (s a b : List ℕ) (x : Outcome Order) → splitOf limits s a b ≡ x → length (written firstBytes (gateSize limits) a x) ≡ length a → Plain (lengthOf firstBytes x)
+split-small : (s a b : List ℕ) (x : Outcome Order) → splitOf limits s a b ≡ x → length (written firstBytes gateSize a x) ≡ length a → Plain (lengthOf firstBytes x)
 unfolding splitOf written lengthOf roomFor
 split-small s a b (accepted o) e h =
-    let t = test-accepted (leb (gateSize limits) (length a)) 1 (test (leb (ownSize limits) (length b)) 1 (orderIn limits s)) e in
-    let w = filled-within (gateSize limits) a (listBytes (o .gate)) (leb-true (gateSize limits) (length a) (t .0)) h in
+    let t = test-accepted (leb gateSize (length a)) 1 (test (leb ownSize (length b)) 1 (orderIn limits s)) e in
+    let w = filled-within gateSize a (listBytes (o .gate)) (leb-true gateSize (length a) (t .0)) h in
     omega arith
 split-small s a b (refused n) e h = tt
 
@@ -64,11 +64,11 @@ split-plain {s = s} {a = a} {b = b} x e =
     subst Plain (sym (x .answer)) (split-small s a b (splitOf limits s a b) refl (sym (ap length (x .gate)) ∙ e))
 
 -- Join: the order sheet is within its buffer.
-join-small : (a b out : List ℕ) (x : Outcome Order) → joinOf limits a b out ≡ x → length (written orderBytes (orderSize limits) out x) ≡ length out → Plain (lengthOf orderBytes x)
+join-small : (a b out : List ℕ) (x : Outcome Order) → joinOf limits a b out ≡ x → length (written orderBytes orderSize out x) ≡ length out → Plain (lengthOf orderBytes x)
 unfolding joinOf written lengthOf roomFor
 join-small a b out (accepted o) e h =
-    let t = test-accepted (leb (orderSize limits) (length out)) 1 _ e in
-    let w = filled-within (orderSize limits) out (orderBytes o) (leb-true (orderSize limits) (length out) (t .0)) h in
+    let t = test-accepted (leb orderSize (length out)) 1 _ e in
+    let w = filled-within orderSize out (orderBytes o) (leb-true orderSize (length out) (t .0)) h in
     omega arith
 join-small a b out (refused n) e h = tt
 

@@ -106,7 +106,7 @@ module _ {half : ℕ} {work₀ rules : List ℕ} {i : ℕ} {work : List ℕ} {n 
             let o : over places (boxesIn n work) (allowsIn (drop j (rulesIn i rules))) ≡ true = rw (left-allow rules i j t e h, lt-ltb places (length (cutEach (boxesIn n work) (r .region))) (omega (arith, k .count))) in
             rw (← g .number, o)
 
-        pub working-over : (before : List ℕ) → half + half ≡ workSize limits → drop (half + half) work₀ ≡ drop (half + half) before → WorkedOut rules i before TooMany work′
+        pub working-over : (before : List ℕ) → half + half ≡ workSize → drop (half + half) work₀ ≡ drop (half + half) before → WorkedOut rules i before TooMany work′
         unfolding GroupStands
         working-over before x f = record { answer = answered-over; boxes = tt; beyond = rw x at (k .beyond ∙ (g .beyond ∙ f)) }
 
@@ -144,7 +144,7 @@ module _ {half : ℕ} {work₀ rules : List ℕ} {i : ℕ} {work : List ℕ} {n 
         let o : over places (startAt i rules) (allowsAt i rules) ≡ false = sym (g .number) ∙ rw none-left in
         rw (o, ← group-stands, boxesIn-length)
 
-    pub working-done : (before : List ℕ) → half + half ≡ workSize limits → drop (half + half) work₀ ≡ drop (half + half) before → WorkedOut rules i before (Boxes n) work
+    pub working-done : (before : List ℕ) → half + half ≡ workSize → drop (half + half) work₀ ≡ drop (half + half) before → WorkedOut rules i before (Boxes n) work
     unfolding GroupStands
     working-done before e f = record {
       answer = answered;

@@ -40,7 +40,7 @@ GroupStands g work TooMany = Unit {0}
 pub record WorkedOut (rules : List ℕ) (i : ℕ) (work : List ℕ) (r : Worked) (work′ : List ℕ) : Type 0 where
   pub answer : r ≡ workedOf limits (startAt i rules) (allowsAt i rules)
   pub boxes : GroupStands (group (startAt i rules) (allowsAt i rules)) work′ r
-  pub beyond : drop (workSize limits) work′ ≡ drop (workSize limits) work
+  pub beyond : drop workSize work′ ≡ drop workSize work
 
 -- How many boxes a half holds, and as many pieces as one allow can leave of them.
 abbrev pub places : ℕ

@@ -12,7 +12,7 @@ ghost use Prim.Native.Nat.{_+_, _*_, _≤_, _<_, min, max};
 ghost use lib.ListN.{length, take, drop};
 ghost use lib.Seq.{sets};
 ghost use Rattle.lists.specs.Lists.{every};
-ghost use Rattle.policy.specs.Fields.{fields, boxSize, recordSize, limits, workSize};
+ghost use Rattle.policy.specs.Fields.{fields, boxSize, recordSize, workSize};
 ghost use Rattle.policy.specs.Rules.{sound, Proper};
 ghost use Rattle.policy.specs.Values.{regionOf};
 ghost use Rattle.policy.specs.Steps.{partBelow, partAbove};
@@ -246,7 +246,7 @@ fn take_allow(work: &mut [u8], half: usize, n: usize, a: Box) -> usize
 
 // The group of the deny rule at place i of the records.
 pub fn work_out(rules: &[u8], i: usize, work: &mut [u8]) -> Worked
-    requires { ⌜ (recordSize * (i + 1) ≤ length (now rules)) × (workSize limits ≤ length (now work)) × (every sound (rulesIn (i + 1) (now rules)) ≡ true) ⌝ }
+    requires { ⌜ (recordSize * (i + 1) ≤ length (now rules)) × (workSize ≤ length (now work)) × (every sound (rulesIn (i + 1) (now rules)) ≡ true) ⌝ }
     ensures { λ r. ⌜ WorkedOut (now (rules .entry)) i (now (work .entry)) r (now (work .exit)) ⌝ }
 {
     let start = wire::box_at(rules, RECORD_BYTES * i);

@@ -26,7 +26,7 @@ use Rattle.sheet.specs.Pairs.{groupSize, groupBoxes}
 use Rattle.sheet.specs.Steps.{rulesOf, groupsFrom, pairOf, pairHeard, PairPlace, boxCount}
 use Rattle.sheet.specs.declared.PairParts.the-variants as P
 use Rattle.wire.proofs.Lists.{listBytes-length}
-use Rattle.sheet.proofs.Orders.{faultless-fits}
+use Rattle.sheet.proofs.Orders.{readable-fits}
 use Rattle.planner.specs.Calls.{checkOf, Call, cellBytes, gateBytes, gateListSize}
 use Rattle.checking.specs.Steps.{CheckRead}
 use Rattle.listing.specs.Steps.{boxRecords, groupRecords, ListPut}
@@ -206,15 +206,15 @@ pub gate-put : (p : Pair) (list c₁ last : List ℕ) (r : Rule) → gateListSiz
     → last ≡ sets c₁ countSize (recordBytes r) → ListPut (gateBytes p) gateListSize list gateListSize last
 unfolding gateBytes listBytes eachBytes
 gate-put p list c₁ last r h e f g =
-    let l : length (gateBytes p) ≡ gateListSize = listBytes-length (gateList p) (faultless-fits (limits .total) (gateList p) (omega arith) (gate-list-good limits p (omega arith)) .rules) in
+    let l : length (gateBytes p) ≡ gateListSize = listBytes-length (gateList p) (readable-fits (limits .total) (gateList p) (omega arith) (gate-list-good limits p (omega arith)) .rules) in
     let head : List ℕ = numberBytes countSize 1 in
     let z : 0 + length head ≡ countSize = omega (arith, numberBytes-length countSize 1) in
     let w : sets list 0 (head ++ recordBytes (rule full 1)) ≡ last = sets-append list 0 head (recordBytes (rule full 1)) ∙ rw (z, ← f, ← e) (sym g) in
     record { answer = sym l; result = sym w ∙ (ap (λ (x : List ℕ). sets list 0 (head ++ x)) (sym (append-none (recordBytes (rule full 1)))) ∙ filled-front gateListSize list (gateBytes p) l h) }
 
 -- A list call once its buffers are long enough: what the check came to, and the list.
-module _ (bytes : Pair → List ℕ) (size : ℕ) (lent : Bool) (s out w : List ℕ) (h : lent ≡ true) {w′ : List ℕ} (e : w′ ≡ zeroed 0 (workSize limits) w) where
-  pub list-refused : {f : Refusal} → CheckRead s (P.Fault f) → Call bytes size lent (checkOf limits s) out w (Refused f) out w′
+module _ (bytes : Pair → List ℕ) (size : ℕ) (lent : Bool) (s out w : List ℕ) (h : lent ≡ true) {w′ : List ℕ} (e : w′ ≡ zeroed 0 workSize w) where
+  pub list-refused : {f : Refusal} → CheckRead s (P.Refused f) → Call bytes size lent (checkOf limits s) out w (Refused f) out w′
   unfolding pairHeard
   list-refused {f} x = call-done bytes size lent (checkOf limits s) out w h (refuses bytes size (checkOf limits s) out w w f (sym (x .says)) refl) e
 

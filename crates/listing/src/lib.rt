@@ -96,7 +96,7 @@ pub fn cell_list(sheet: &[u8], list: &mut [u8], work: &mut [u8]) -> Answer
         return Answer::Refused(Refusal::BufferShort);
     }
     match checking::checked(sheet, work) {
-        PairParts::Fault(f) => Answer::Refused(f),
+        PairParts::Refused(f) => Answer::Refused(f),
         PairParts::Parts {
             gate,
             own,
@@ -130,7 +130,7 @@ pub fn gate_list(sheet: &[u8], list: &mut [u8], work: &mut [u8]) -> Answer
         return Answer::Refused(Refusal::BufferShort);
     }
     match checking::checked(sheet, work) {
-        PairParts::Fault(f) => Answer::Refused(f),
+        PairParts::Refused(f) => Answer::Refused(f),
         PairParts::Parts {
             gate: _,
             own: _,

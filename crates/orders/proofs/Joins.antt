@@ -53,7 +53,7 @@ list-place x n next e = rw e at (x .place)
 -- Both lists fit the sheet.
 module _ {a b : List ℕ} {r q : Section} (x : ListRead (limits .gate) a r) (y : ListRead (limits .own) b q)
     (n m : ℕ) (e : r ≡ S.Rules n m) (j k : ℕ) (f : q ≡ S.Rules j k) where
-  pub both-fit : length a + length b ≤ orderSize limits
+  pub both-fit : length a + length b ≤ orderSize
   both-fit =
       let p = list-place x n m e in
       let o = list-place y j k f in
@@ -62,31 +62,31 @@ module _ {a b : List ℕ} {r q : Section} (x : ListRead (limits .gate) a r) (y :
 module _ (a b out : List ℕ) where
   refusing : (f : Refusal) → joinOf limits a b out ≡ refused (numberOf f) → Join a b out (Refused f) out
   unfolding lengthOf
-  refusing f e = record { answer = rw e refl; sheet = refusal-leaves orderBytes (orderSize limits) out e }
+  refusing f e = record { answer = rw e refl; sheet = refusal-leaves orderBytes orderSize out e }
 
-  pub sheet-short : length out < orderSize limits → Join a b out (Refused BufferShort) out
+  pub sheet-short : length out < orderSize → Join a b out (Refused BufferShort) out
   unfolding joinOf roomFor
-  sheet-short h = refusing BufferShort (rw (lt-leb (orderSize limits) (length out) h) refl)
+  sheet-short h = refusing BufferShort (rw (lt-leb orderSize (length out) h) refl)
 
-  module _ (x : orderSize limits ≤ length out) {r : Section} (g : ListRead (limits .gate) a r) where
-    pub join-gate-fault : (f : Refusal) → r ≡ S.Fault f → Join a b out (Refused f) out
+  module _ (x : orderSize ≤ length out) {r : Section} (g : ListRead (limits .gate) a r) where
+    pub join-gate-refusal : (f : Refusal) → r ≡ S.Refused f → Join a b out (Refused f) out
     unfolding joinOf roomFor
-    join-gate-fault f e = refusing f (rw (le-leb (orderSize limits) (length out) x, list-refused g f e) refl)
+    join-gate-refusal f e = refusing f (rw (le-leb orderSize (length out) x, list-refused g f e) refl)
 
     module _ (ba : (i : ℕ) → Fits w8 (getD a i 0)) (n m : ℕ) (e : r ≡ S.Rules n m) {q : Section} (h : ListRead (limits .own) b q) where
-      pub join-own-fault : (f : Refusal) → q ≡ S.Fault f → Join a b out (Refused f) out
+      pub join-own-refusal : (f : Refusal) → q ≡ S.Refused f → Join a b out (Refused f) out
       unfolding joinOf roomFor
-      join-own-fault f i =
-          refusing f (rw (le-leb (orderSize limits) (length out) x, list-accepted g (bytes-of a ba) n m e .reads, list-refused h f i) refl)
+      join-own-refusal f i =
+          refusing f (rw (le-leb orderSize (length out) x, list-accepted g (bytes-of a ba) n m e .reads, list-refused h f i) refl)
 
       pub join-done :
-          ((i : ℕ) → Fits w8 (getD b i 0)) → (j k : ℕ) → q ≡ S.Rules j k → {last : List ℕ} → last ≡ filled (orderSize limits) out (a ++ b)
+          ((i : ℕ) → Fits w8 (getD b i 0)) → (j k : ℕ) → q ≡ S.Rules j k → {last : List ℕ} → last ≡ filled orderSize out (a ++ b)
           → Join a b out (Length (length a + length b)) last
       unfolding joinOf lengthOf written orderBytes roomFor
       join-done bb j k i u =
           let z = list-accepted g (bytes-of a ba) n m e in
           let w = list-accepted h (bytes-of b bb) j k i in
           record {
-            answer = rw (le-leb (orderSize limits) (length out) x, z .reads, w .reads, z .bytes, w .bytes) (ap accepted (sym (length-append a b)));
-            sheet = rw (le-leb (orderSize limits) (length out) x, z .reads, w .reads, z .bytes, w .bytes) u;
+            answer = rw (le-leb orderSize (length out) x, z .reads, w .reads, z .bytes, w .bytes) (ap accepted (sym (length-append a b)));
+            sheet = rw (le-leb orderSize (length out) x, z .reads, w .reads, z .bytes, w .bytes) u;
           }

@@ -42,37 +42,37 @@ module _ {s : List ℕ} {r : OrderParts} (x : OrderRead s r) (n m middle : ℕ) 
   pub gate-long : middle ≡ length (take middle s)
   gate-long = sym (length-take-le middle s middle-within)
 
-  pub gate-fits : length (take middle s) ≤ gateSize limits
+  pub gate-fits : length (take middle s) ≤ gateSize
   gate-fits = let p = place in omega (arith, gate-long)
 
-  pub own-fits : length (take (length s - middle) (drop middle s)) ≤ ownSize limits
+  pub own-fits : length (take (length s - middle) (drop middle s)) ≤ ownSize
   own-fits = let p = place in rw (part-from s middle, length-drop middle s) (omega arith)
 
 module _ (s a b : List ℕ) where
   refusing : (f : Refusal) → splitOf limits s a b ≡ refused (numberOf f) → Split s a b (Refused f) a b
   unfolding lengthOf
-  refusing f e = record { answer = rw e refl; gate = refusal-leaves firstBytes (gateSize limits) a e; own = refusal-leaves secondBytes (ownSize limits) b e }
+  refusing f e = record { answer = rw e refl; gate = refusal-leaves firstBytes gateSize a e; own = refusal-leaves secondBytes ownSize b e }
 
-  pub gate-short : length a < gateSize limits → Split s a b (Refused BufferShort) a b
+  pub gate-short : length a < gateSize → Split s a b (Refused BufferShort) a b
   unfolding splitOf roomFor
-  gate-short h = refusing BufferShort (rw (lt-leb (gateSize limits) (length a) h) refl)
+  gate-short h = refusing BufferShort (rw (lt-leb gateSize (length a) h) refl)
 
-  module _ (x : gateSize limits ≤ length a) where
-    pub own-short : length b < ownSize limits → Split s a b (Refused BufferShort) a b
+  module _ (x : gateSize ≤ length a) where
+    pub own-short : length b < ownSize → Split s a b (Refused BufferShort) a b
     unfolding splitOf roomFor
-    own-short h = refusing BufferShort (rw (le-leb (gateSize limits) (length a) x, lt-leb (ownSize limits) (length b) h) refl)
+    own-short h = refusing BufferShort (rw (le-leb gateSize (length a) x, lt-leb ownSize (length b) h) refl)
 
-    module _ (y : ownSize limits ≤ length b) {r : OrderParts} (z : OrderRead s r) where
+    module _ (y : ownSize ≤ length b) {r : OrderParts} (z : OrderRead s r) where
       roomy : splitOf limits s a b ≡ orderIn limits s
       unfolding splitOf roomFor
-      roomy = rw (le-leb (gateSize limits) (length a) x, le-leb (ownSize limits) (length b) y) refl
+      roomy = rw (le-leb gateSize (length a) x, le-leb ownSize (length b) y) refl
 
-      pub split-fault : (f : Refusal) → r ≡ O.Fault f → Split s a b (Refused f) a b
-      split-fault f e = refusing f (roomy ∙ order-refused z f e)
+      pub split-refusal : (f : Refusal) → r ≡ O.Refused f → Split s a b (Refused f) a b
+      split-refusal f e = refusing f (roomy ∙ order-refused z f e)
 
       pub split-done :
           ((i : ℕ) → Fits w8 (getD s i 0)) → (n m middle : ℕ) → r ≡ O.Parts n m middle
-          → {a′ b′ : List ℕ} → a′ ≡ filled (gateSize limits) a (take middle s) → b′ ≡ filled (ownSize limits) b (take (length s - middle) (drop middle s))
+          → {a′ b′ : List ℕ} → a′ ≡ filled gateSize a (take middle s) → b′ ≡ filled ownSize b (take (length s - middle) (drop middle s))
           → Split s a b (Length middle) a′ b′
       unfolding lengthOf written
       split-done f n m middle e u v =

@@ -27,7 +27,7 @@ pub fn split(sheet: &[u8], a: &mut [u8], b: &mut [u8]) -> Answer
         return Answer::Refused(Refusal::BufferShort);
     }
     match sheet::read_order(sheet) {
-        OrderParts::Fault(f) => Answer::Refused(f),
+        OrderParts::Refused(f) => Answer::Refused(f),
         OrderParts::Parts {
             gate: _,
             own: _,
@@ -57,9 +57,9 @@ pub fn join(a: &[u8], b: &[u8], sheet: &mut [u8]) -> Answer
         return Answer::Refused(Refusal::BufferShort);
     }
     match sheet::read_list(a, GATE_MOST) {
-        Section::Fault(f) => Answer::Refused(f),
+        Section::Refused(f) => Answer::Refused(f),
         Section::Rules { count: _, next: _ } => match sheet::read_list(b, OWN_MOST) {
-            Section::Fault(f) => Answer::Refused(f),
+            Section::Refused(f) => Answer::Refused(f),
             Section::Rules { count: _, next: _ } => {
                 fill_both(sheet, ORDER_BYTES, a, b);
                 Answer::Length(a.len() + b.len())

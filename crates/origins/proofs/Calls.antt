@@ -17,7 +17,7 @@ use Rattle.policy.proofs.Answers.{said-once, test-accepted}
 use Rattle.wire.specs.Buffers.{zeroed, written}
 use Rattle.sheet.specs.Steps.{pairHeard, PairPlaced}
 use Rattle.sheet.specs.declared.PairParts.the-variants as P
-use Rattle.sheet.proofs.Outcomes.{faultless, through}
+use Rattle.sheet.proofs.Outcomes.{readable, through}
 use Rattle.planner.specs.Calls.{workAfter, bothLent, checkOf}
 use Rattle.planner.proofs.Calls.{room-short, work-short, both-there}
 use Rattle.checking.specs.Steps.{CheckRead}
@@ -39,11 +39,11 @@ pub traced-small : {s : List ℕ} {l : Layout} → Checked s l → (p : Packet) 
 unfolding traceHeard Small HasOrigin placeOf
 traced-small {s} {l} c p (Gate rule number place) x =
     let d = decided s (laidOut l s) (c .checks) p _ (sym (x .says)) in
-    let g = faultless (limits .gate) _ (good s (laidOut l s) (c .checks) .gate) in
+    let g = readable (limits .gate) _ (good s (laidOut l s) (c .checks) .gate) in
     (omega (arith, d .has .0, g .many), omega (arith, d .place, d .back), d .place)
 traced-small {s} {l} c p (Own passed rule place action) x =
     let d = decided s (laidOut l s) (c .checks) p _ (sym (x .says)) in
-    let g = faultless (limits .own) _ (good s (laidOut l s) (c .checks) .own) in
+    let g = readable (limits .own) _ (good s (laidOut l s) (c .checks) .own) in
     (omega (arith, d .has, g .many), d .place, d .action)
 traced-small c p Nowhere x = tt
 
@@ -55,14 +55,14 @@ module _ (p : Packet) (s ns w : List ℕ) where
   pub numbers-short : length ns < originSize → Origins p s ns w (Refused BufferShort) ns w
   numbers-short h = short (room-short originSize ns _ h)
 
-  pub work-too-short : originSize ≤ length ns → length w < workSize limits → Origins p s ns w (Refused BufferShort) ns w
-  work-too-short h k = short (work-short originSize (workSize limits) ns w h k)
+  pub work-too-short : originSize ≤ length ns → length w < workSize → Origins p s ns w (Refused BufferShort) ns w
+  work-too-short h k = short (work-short originSize workSize ns w h k)
 
-  module _ (h : originSize ≤ length ns) (k : workSize limits ≤ length w) {w′ : List ℕ} (clear : w′ ≡ zeroed 0 (workSize limits) w) where
+  module _ (h : originSize ≤ length ns) (k : workSize ≤ length w) {w′ : List ℕ} (clear : w′ ≡ zeroed 0 workSize w) where
     lent : bothLent originSize ns w ≡ true
-    lent = both-there originSize (workSize limits) ns w h k
+    lent = both-there originSize workSize ns w h k
 
-    pub origin-refused : {f : Refusal} → CheckRead s (P.Fault f) → Origins p s ns w (Refused f) ns w′
+    pub origin-refused : {f : Refusal} → CheckRead s (P.Refused f) → Origins p s ns w (Refused f) ns w′
     unfolding originCall originOf valueOf written workAfter pairHeard
     origin-refused x = record { answer = rw (lent, ← x .says) refl; numbers = rw (lent, ← x .says) refl; work = rw lent clear }
 

@@ -10,7 +10,7 @@ use borrow.Author.Tests.{ltb-true, ltb-false}
 use Rattle.policy.specs.Fields.{limits}
 use Rattle.policy.specs.Ranges.{Packet}
 use Rattle.policy.specs.Rules.{rule, complete, Found, found, nothing, firstFrom, first, saysDrop, inLimits}
-use Rattle.policy.specs.Refusals.{accepted, refused, faults}
+use Rattle.policy.specs.Refusals.{accepted, refused, rulesRefusal}
 use Rattle.policy.specs.Move.{Pair, together, cellList}
 use Rattle.policy.specs.Demands.{groupAt}
 use Rattle.policy.specs.Origins.{Origin, gateRule, ownRule, originAt, placeOf, HasOrigin}
@@ -20,7 +20,7 @@ use Rattle.policy.proofs.Edits.{list-accepted}
 use Rattle.policy.proofs.Moves.{above-from, nothing-above}
 use Rattle.policy.proofs.Places.{place-back}
 use Rattle.policy.proofs.Origins.{regions, first-found, first-nothing, own-decides, box-there, box-decides}
-use Rattle.sheet.proofs.Outcomes.{faultless}
+use Rattle.sheet.proofs.Outcomes.{readable}
 use Rattle.sheet.proofs.Pairs.{PairGood, pair-good}
 use Rattle.planner.specs.Calls.{checkOf}
 use Rattle.planner.proofs.Good.{cell-list-good}
@@ -40,17 +40,17 @@ module _ (s : List ℕ) (q : Pair) (checks : checkOf limits s ≡ accepted q) wh
   pub good : PairGood limits q
   good = pair-good limits s q (known .reads) (omega arith)
 
-  pub gate-clean : (faults (q .order .gate) ≡ 0) × (complete (q .order .gate) ≡ true)
+  pub gate-clean : (rulesRefusal (q .order .gate) ≡ 0) × (complete (q .order .gate) ≡ true)
   gate-clean = list-accepted (limits .gate) (q .order .gate) (good .gate)
 
-  own-clean : (faults (q .order .own) ≡ 0) × (complete (q .order .own) ≡ true)
+  own-clean : (rulesRefusal (q .order .own) ≡ 0) × (complete (q .order .own) ≡ true)
   own-clean = list-accepted (limits .own) (q .order .own) (good .own)
 
-  pub cell-faultless : listRefusal (limits .total) (cellList q) ≡ 0
-  cell-faultless = subst (λ (x : Pair). listRefusal (limits .total) (cellList x) ≡ 0) (sym (known .moved)) (cell-list-good limits (q .order) (known .none))
+  pub cell-readable : listRefusal (limits .total) (cellList q) ≡ 0
+  cell-readable = subst (λ (x : Pair). listRefusal (limits .total) (cellList x) ≡ 0) (sym (known .moved)) (cell-list-good limits (q .order) (known .none))
 
-  pub cell-clean : (faults (cellList q) ≡ 0) × (complete (cellList q) ≡ true)
-  cell-clean = list-accepted (limits .total) (cellList q) cell-faultless
+  pub cell-clean : (rulesRefusal (cellList q) ≡ 0) × (complete (cellList q) ≡ true)
+  cell-clean = list-accepted (limits .total) (cellList q) cell-readable
 
   -- an origin that is there, found by its place
   at-origin : (p : Packet) (x : Origin) (action : ℕ) → HasOrigin q x → first p (cellList q) ≡ found (placeOf q x) action
@@ -117,7 +117,7 @@ module _ (s : List ℕ) (q : Pair) (checks : checkOf limits s ≡ accepted q) wh
     decided-by : (x : Found) → first p (cellList q) ≡ x → (d : Decision) → decision q x ≡ accepted d → DecidedAs d
     decided-by (found n a) e d h =
         let small = found-small p (cellList q) n a (cell-clean .0) e in
-        let many = faultless (limits .total) (cellList q) cell-faultless .many in
+        let many = readable (limits .total) (cellList q) cell-readable .many in
         let there = place-back q (good .counted) .there n (small .0) in
         let is : record { hit = hit n a; origin = originAt q n } ≡ d = cc in
         subst DecidedAs is (record { found = e; place = omega (arith, small .0); action = small .1; has = there .0; back = there .1 })

@@ -16,13 +16,13 @@ use Rattle.policy.specs.Steps.{boxNumber}
 use Rattle.policy.proofs.Moves.{above-from, nothing-above}
 use Rattle.policy.proofs.Places.{place-back}
 use Rattle.policy.proofs.Origins.{regions, number-has, first-found, found-number}
-use Rattle.sheet.proofs.Outcomes.{faultless}
+use Rattle.sheet.proofs.Outcomes.{readable}
 use Rattle.filter.specs.Lookup.{hit, lookup, decidedBy}
 use Rattle.filter.proofs.Lists.{found-small, lookup-first}
 use Rattle.planner.specs.Calls.{checkOf, cellBytes}
 use Rattle.origins.specs.Origin.{Decision, decision, originOf}
 use Rattle.origins.specs.Theorems.{hitOf, workedOut, OriginAgreesTheorem, GateRuleDecided, GateRuleTheorem, OwnRuleDecided, OwnRuleTheorem, NoRuleTheorem}
-use Rattle.origins.proofs.Deciding.{decidedAt, good, gate-clean, cell-clean, cell-faultless, has-box, own-has, by-gate, by-own, by-nothing, decided}
+use Rattle.origins.proofs.Deciding.{decidedAt, good, gate-clean, cell-clean, cell-readable, has-box, own-has, by-gate, by-own, by-nothing, decided}
 
 module _ (p : Packet) (s : List ℕ) (q : Pair) (checks : checkOf limits s ≡ accepted q) where
   origin-is : originOf limits p s ≡ decision q (first p (cellList q))
@@ -37,7 +37,7 @@ module _ (p : Packet) (s : List ℕ) (q : Pair) (checks : checkOf limits s ≡ a
   looks-up : hitOf (originOf limits p s) ≡ lookup (limits .total) p (cellBytes q)
   unfolding cellBytes
   looks-up =
-      let f = faultless (limits .total) (cellList q) (cell-faultless s q checks) in
+      let f = readable (limits .total) (cellList q) (cell-readable s q checks) in
       ap hitOf origin-is ∙ (hit-is (first p (cellList q)) ∙ sym (lookup-first (limits .total) p (cellList q) (cell-clean s q checks .0) (f .few) (f .many) (omega arith)))
 
   works-out : (x : Outcome Decision) → originOf limits p s ≡ x → workedOut q x ≡ hitOf x

@@ -52,4 +52,4 @@ originCall p s ns w = test (bothLent originSize ns w) 1 (originOf limits p s)
 pub record Origins (p : Packet) (s ns w : List ℕ) (r : Answer) (ns′ w′ : List ℕ) : Type 0 where
   pub answer : said r ≡ valueOf (originCall p s ns w)
   pub numbers : ns′ ≡ written decisionNumbers originSize ns (originCall p s ns w)
-  pub work : w′ ≡ workAfter limits (bothLent originSize ns w) w
+  pub work : w′ ≡ workAfter (bothLent originSize ns w) w

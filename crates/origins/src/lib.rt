@@ -190,7 +190,7 @@ pub fn origin(p: Packet, sheet: &[u8], numbers: &mut [u32], work: &mut [u8]) -> 
         return Answer::Refused(Refusal::BufferShort);
     }
     match checking::checked(sheet, work) {
-        PairParts::Fault(f) => Answer::Refused(f),
+        PairParts::Refused(f) => Answer::Refused(f),
         PairParts::Parts {
             gate,
             own,

@@ -8,7 +8,7 @@ use native.Mathlib.Omega.{arith}
 use lib.ListN.{length, take, drop}
 use borrow.Author.Tests.{le-leb, lt-leb}
 use Rattle.lists.proofs.Tests.{and-both}
-use Rattle.policy.specs.Fields.{limits, workSize}
+use Rattle.policy.specs.Fields.{workSize}
 use Rattle.policy.specs.Refusals.{Outcome, accepted, refused, test}
 use Rattle.policy.specs.declared.Answer.{Answer}
 use Rattle.policy.specs.declared.Answer.the-variants.{Length, Refused}
@@ -45,12 +45,12 @@ module _ {A : Type 0} (bytes : A → List ℕ) (size : ℕ) (lent : Bool) (x : O
   unfolding lengthOf written workAfter
   call-short h = record { answer = rw h; result = rw h; work = rw h }
 
-  pub call-done : lent ≡ true → {r : Answer} {out′ v w′ : List ℕ} → Writes bytes size x out w r out′ v → w′ ≡ zeroed 0 (workSize limits) v → Call bytes size lent x out w r out′ w′
+  pub call-done : lent ≡ true → {r : Answer} {out′ v w′ : List ℕ} → Writes bytes size x out w r out′ v → w′ ≡ zeroed 0 workSize v → Call bytes size lent x out w r out′ w′
   unfolding workAfter
   call-done h {v = v} y e = record {
     answer = rw h (y .answer);
     result = rw h (y .result);
-    work = rw h (e ∙ zeroed-same (workSize limits) v w (y .beyond));
+    work = rw h (e ∙ zeroed-same workSize v w (y .beyond));
   }
 
   pub call-once : {r q : Answer} {y z u v : List ℕ} → Call bytes size lent x out w r y u → Call bytes size lent x out w q z v → (r ≡ q) × (y ≡ z) × (u ≡ v)

@@ -32,8 +32,8 @@ use Rattle.wire.proofs.Buffers.{filled-content, filled-over}
 use Rattle.wire.proofs.Records.{RuleFits, ruleIn-fits}
 use Rattle.sheet.specs.Orders.{orderIn, orderBytes}
 use Rattle.sheet.specs.Pairs.{pairIn, pairBytes, pairSize}
-use Rattle.sheet.proofs.Outcomes.{through, unless-both, faultless}
-use Rattle.sheet.proofs.Orders.{ListFits, faultless-fits, order-back, order-faultless, order-written-back, list-back}
+use Rattle.sheet.proofs.Outcomes.{through, unless-both, readable}
+use Rattle.sheet.proofs.Orders.{ListFits, readable-fits, order-back, order-readable, order-written-back, list-back}
 use Rattle.sheet.proofs.Pairs.{pair-back, pair-good, pair-written-back}
 use Rattle.sheet.proofs.Lengths.{other-length-refused}
 use Rattle.planner.specs.Calls.{planOf, moveOf, checkedOf, checkOf, gateBytes, cellBytes}
@@ -64,12 +64,12 @@ changed-fits i c s l w b f n =
       count = rw (length-append, length-append, length-take, length-drop, length-drop) (omega arith);
     }
 
--- What is asked of limits: counts fit in two bytes, also with one rule more, and the own rules, at least one, have room in the
--- total.
+-- What is asked of limits: none is above the scope's own, which the sizes are made of, and the own rules, at least one, have room in
+-- the total.
 pub record Small (lim : Limits) : Type 0 where
-  pub gate : lim .gate < 65535
-  pub own : lim .own < 65535
-  pub total : lim .total < 65536
+  pub gate : lim .gate ≤ limits .gate
+  pub own : lim .own ≤ limits .own
+  pub total : lim .total ≤ limits .total
   pub one : 1 ≤ lim .total
   pub share : lim .own ≤ lim .total
 
@@ -88,16 +88,16 @@ module _ (lim : Limits) (small : Small lim) where
   move-fits : (o : Order) → moveRefusal lim o ≡ 0 → ListFits (o .gate) × ListFits (o .own)
   move-fits o h =
       let a = move-accepted lim o h in
-      (faultless-fits (lim .gate) (o .gate) (omega (arith, small .gate)) (a .gate), faultless-fits (lim .own) (o .own) (omega (arith, small .own)) (a .own))
+      (readable-fits (lim .gate) (o .gate) (omega (arith, small .gate)) (a .gate), readable-fits (lim .own) (o .own) (omega (arith, small .own)) (a .own))
 
   pub move-again : (o : Order) → moveRefusal lim o ≡ 0 → moveOf lim (orderBytes o) ≡ accepted (moved o)
   move-again o h = let f = move-fits o h in move-back o (f .0) (f .1) ∙ unless-none (moveRefusal lim o) (moved o) h
 
   sheet-back : (o : Order) → moveRefusal lim o ≡ 0 → pairIn lim (pairBytes (moved o)) ≡ accepted (moved o)
-  sheet-back o h = pair-back lim (moved o) (omega (arith, small .gate)) (omega (arith, small .own)) (small .total) (moved-good lim o h)
+  sheet-back o h = pair-back lim (moved o) (omega (arith, small .gate)) (omega (arith, small .own)) (omega (arith, small .total)) (moved-good lim o h)
 
-  pub sheet-short : (o : Order) → moveRefusal lim o ≡ 0 → length (pairBytes (moved o)) ≤ pairSize lim
-  sheet-short o h = pair-short lim (moved o) (omega (arith, small .gate)) (omega (arith, small .own)) (moved-good lim o h) (small .share)
+  pub sheet-short : (o : Order) → moveRefusal lim o ≡ 0 → length (pairBytes (moved o)) ≤ pairSize
+  sheet-short o h = pair-short lim (moved o) (omega (arith, small .gate)) (omega (arith, small .own)) (moved-good lim o h) (small .gate) (small .own) (small .total)
 
   -- what an accepted move of bytes is
   pub record Read (s : List ℕ) (p : Pair) : Type 0 where
@@ -112,7 +112,7 @@ module _ (lim : Limits) (small : Small lim) where
       let a = through (orderIn lim s) _ p e in
       let o = a .value in
       let u = unless-accepted (room lim o (slotsOf o)) (a .then) in
-      let f = order-faultless lim s o (a .first) in
+      let f = order-readable lim s o (a .first) in
       record {
         order = o;
         reads = a .first;
@@ -133,8 +133,8 @@ module _ (lim : Limits) (small : Small lim) where
         pair = refl;
         sheet = k;
         checks = rw k (unless-none (checkRefusal lim (moved o)) (moved o) (moved-is-checked lim o h));
-        gate = list-back (lim .total) (gateList (moved o)) (faultless-fits (lim .total) (gateList (moved o)) (small .total) g) ∙ unless-none _ _ g;
-        cell = list-back (lim .total) (cellList (moved o)) (faultless-fits (lim .total) (cellList (moved o)) (small .total) c) ∙ unless-none _ _ c;
+        gate = list-back (lim .total) (gateList (moved o)) (readable-fits (lim .total) (gateList (moved o)) (omega (arith, small .total)) g) ∙ unless-none _ _ g;
+        cell = list-back (lim .total) (cellList (moved o)) (readable-fits (lim .total) (cellList (moved o)) (omega (arith, small .total)) c) ∙ unless-none _ _ c;
         forwarded = λ q. moved-pair-forwards o q (f .0) (f .1);
         boxes = λ q. boxes-cover-what-the-gate-dropped o q (f .0);
         cell-first = λ q. cell-first o q (f .0);
@@ -147,20 +147,20 @@ module _ (lim : Limits) (small : Small lim) where
       (r .order, subst (λ (q : Pair). DemandTwo lim s (r .order) q) (sym (r .pair)) (moved-demand-two s (r .order) b (r .reads) (r .none)))
 
   -- the sheet that stands in a buffer is read back, and writing another over it leaves nothing of it
-  held-taken : (out : List ℕ) (o : Order) → moveRefusal lim o ≡ 0 → take (length (pairBytes (moved o))) (held lim out (moved o) .buffer) ≡ pairBytes (moved o)
-  held-taken out o h = filled-content (pairSize lim) out (pairBytes (moved o)) (length (pairBytes (moved o))) refl
+  held-taken : (out : List ℕ) (o : Order) → moveRefusal lim o ≡ 0 → take (length (pairBytes (moved o))) (held out (moved o) .buffer) ≡ pairBytes (moved o)
+  held-taken out o h = filled-content pairSize out (pairBytes (moved o)) (length (pairBytes (moved o))) refl
 
-  held-long : (out : List ℕ) (o : Order) → length (pairBytes (moved o)) ≤ length (held lim out (moved o) .buffer)
+  held-long : (out : List ℕ) (o : Order) → length (pairBytes (moved o)) ≤ length (held out (moved o) .buffer)
   unfolding filled
   held-long out o = rw length-append (omega arith)
 
   edits-moved : (out : List ℕ) (o : Order) (a : Asked) → moveRefusal lim o ≡ 0
-      → editedOf lim (take (held lim out (moved o) .used) (held lim out (moved o) .buffer)) a ≡ changeOf lim a (moved o)
+      → editedOf lim (take (held out (moved o) .used) (held out (moved o) .buffer)) a ≡ changeOf lim a (moved o)
   unfolding editedOf
   edits-moved out o a h = rw (held-taken out o h, sheet-back o h)
 
-  held-over : (out : List ℕ) (o : Order) (p : Pair) → moveRefusal lim o ≡ 0 → held lim (held lim out (moved o) .buffer) p ≡ held lim out p
-  held-over out o p h = λ t. record { buffer = filled-over (pairSize lim) out (pairBytes (moved o)) (pairBytes p) (sheet-short o h) t; used = length (pairBytes p) }
+  held-over : (out : List ℕ) (o : Order) (p : Pair) → moveRefusal lim o ≡ 0 → held (held out (moved o) .buffer) p ≡ held out p
+  held-over out o p h = λ t. record { buffer = filled-over pairSize out (pairBytes (moved o)) (pairBytes p) (sheet-short o h) t; used = length (pairBytes p) }
 
   -- what an accepted change of a moved pair is
   change-accepted : (a : Asked) (o : Order) (p : Pair) → moveRefusal lim o ≡ 0 → changeOf lim a (moved o) ≡ accepted p
@@ -182,19 +182,19 @@ module _ (lim : Limits) (small : Small lim) where
       rw x refl
 
   -- Demand 3, an accepted edit: it was told the sheet's own length, and leaves the accepted move of the edited lists.
-  pub edit-done : (out : List ℕ) (o : Order) (n : ℕ) (a : Asked) (p : Pair) → moveRefusal lim o ≡ 0 → n ≤ length (held lim out (moved o) .buffer)
-      → editedOf lim (take n (held lim out (moved o) .buffer)) a ≡ accepted p
-      → (moveRefusal lim (newOrder (editOf a) o) ≡ 0) × (held lim (held lim out (moved o) .buffer) p ≡ held lim out (moved (newOrder (editOf a) o)))
+  pub edit-done : (out : List ℕ) (o : Order) (n : ℕ) (a : Asked) (p : Pair) → moveRefusal lim o ≡ 0 → n ≤ length (held out (moved o) .buffer)
+      → editedOf lim (take n (held out (moved o) .buffer)) a ≡ accepted p
+      → (moveRefusal lim (newOrder (editOf a) o) ≡ 0) × (held (held out (moved o) .buffer) p ≡ held out (moved (newOrder (editOf a) o)))
   edit-done out o n a p h k e = go (eqb n (length (pairBytes (moved o)))) refl
     where
       go : (t : Bool) → eqb n (length (pairBytes (moved o))) ≡ t
-          → (moveRefusal lim (newOrder (editOf a) o) ≡ 0) × (held lim (held lim out (moved o) .buffer) p ≡ held lim out (moved (newOrder (editOf a) o)))
+          → (moveRefusal lim (newOrder (editOf a) o) ≡ 0) × (held (held out (moved o) .buffer) p ≡ held out (moved (newOrder (editOf a) o)))
       go true i =
-          let same = ap (λ (m : ℕ). editedOf lim (take m (held lim out (moved o) .buffer)) a) (sym (eqb-true n _ i)) in
+          let same = ap (λ (m : ℕ). editedOf lim (take m (held out (moved o) .buffer)) a) (sym (eqb-true n _ i)) in
           let c = change-accepted a o p h (sym (edits-moved out o a h) ∙ (same ∙ e)) in
-          (c .0, held-over out o p h ∙ ap (held lim out) (c .1))
+          (c .0, held-over out o p h ∙ ap (held out) (c .1))
       go false i =
-          let b : List ℕ = held lim out (moved o) .buffer in
+          let b : List ℕ = held out (moved o) .buffer in
           let s = pairBytes (moved o) in
           let reads : pairIn lim (take (length s) b) ≡ accepted (moved o) = rw (held-taken out o h) (sheet-back o h) in
           let z : _≡_ {A = ℕ} 0 1 = cc (sym (other-length b (length s) n (moved o) a (held-long out o) reads k (eqb-false n _ i)) ∙ e) in
@@ -203,7 +203,7 @@ module _ (lim : Limits) (small : Small lim) where
   -- Demand 3, one edit with a place that exists and a whole record.
   pub edit-as-fresh-move : (out : List ℕ) (o : Order) (a : Asked) → moveRefusal lim o ≡ 0 → a .list ≤ 1 → placeFound (editOf a) o ≡ true
       → wholeRecord (a .change) (a .bytes) ≡ true → Each Byte (a .bytes)
-      → editedOf lim (take (held lim out (moved o) .used) (held lim out (moved o) .buffer)) a ≡ moveOf lim (orderBytes (newOrder (editOf a) o))
+      → editedOf lim (take (held out (moved o) .used) (held out (moved o) .buffer)) a ≡ moveOf lim (orderBytes (newOrder (editOf a) o))
   unfolding changeOf
   edit-as-fresh-move out o a h l p w b =
       edits-moved out o a h
@@ -219,8 +219,8 @@ module _ (lim : Limits) (small : Small lim) where
       new l r n = changed-fits (a .place) (a .change) (a .bytes) l w b r n
 
       go : (t : Bool) → ListFits (cond t (changed (a .place) (kindOf (a .change) (a .bytes)) (cond t (o .gate) (o .own))) (o .gate)) × ListFits (cond t (o .own) (changed (a .place) (kindOf (a .change) (a .bytes)) (cond t (o .gate) (o .own))))
-      go true = (new (o .gate) (f .0 .rules) (omega (arith, faultless (lim .gate) (o .gate) (m .gate), small .gate)), f .1)
-      go false = (f .0, new (o .own) (f .1 .rules) (omega (arith, faultless (lim .own) (o .own) (m .own), small .own)))
+      go true = (new (o .gate) (f .0 .rules) (omega (arith, readable (lim .gate) (o .gate) (m .gate), small .gate)), f .1)
+      go false = (f .0, new (o .own) (f .1 .rules) (omega (arith, readable (lim .own) (o .own) (m .own), small .own)))
 
   -- Demand 3, other rules' boxes: what an accepted edit of bytes is.
   record EditedIs (a : Asked) (p q : Pair) : Type 0 where
@@ -260,7 +260,7 @@ module _ (lim : Limits) (small : Small lim) where
     pub edited-sheet : pairIn lim (pairBytes q) ≡ accepted q
     edited-sheet =
         let g = edited-good lim p (pair-good lim s p r (small .share)) (editOf a) (accepted-edit s a p q r e .none) in
-        subst (λ (x : Pair). pairIn lim (pairBytes x) ≡ accepted x) edited-is (pair-back lim (edited (editOf a) p) (omega (arith, small .gate)) (omega (arith, small .own)) (small .total) g)
+        subst (λ (x : Pair). pairIn lim (pairBytes x) ≡ accepted x) edited-is (pair-back lim (edited (editOf a) p) (omega (arith, small .gate)) (omega (arith, small .own)) (omega (arith, small .total)) g)
 
   -- what a sheet that passes check is: it reads as the moved pair of its lists, and their move is accepted
   pub record CheckedPair (s : List ℕ) (p : Pair) : Type 0 where

@@ -12,12 +12,12 @@ use Rattle.lists.proofs.Lists.{each-append, each-take, each-drop, map-append, t
 use Rattle.policy.specs.Fields.{Limits}
 use Rattle.policy.specs.Ranges.{Region}
 use Rattle.policy.specs.Rules.{Rule, complete, denies, allowsIn, anyAllow}
-use Rattle.policy.specs.Refusals.{given, orElse, faults}
+use Rattle.policy.specs.Refusals.{given, orElse, rulesRefusal}
 use Rattle.policy.specs.Move.{Slot, kept, slots, startOf, boxesOf, together, work, room, Order, Pair, badCount}
 use Rattle.policy.proofs.Refused.{listRefusal}
 use Rattle.policy.specs.Edit.{Kind, out, put, front, gone, back, changed, around, Edit, edited, changeRefusal}
 use Rattle.policy.proofs.Numbers.{orElse-zero, orElse-both, given-zero}
-use Rattle.policy.proofs.Edits.{slots-length, kept-boxes, faults-append, allowsIn-append, changed-faults, list-accepted}
+use Rattle.policy.proofs.Edits.{slots-length, kept-boxes, rulesRefusal-append, allowsIn-append, changed-rulesRefusal, list-accepted}
 use Rattle.policy.proofs.Kept.{denies-append}
 use Rattle.sheet.proofs.Pairs.{ProperGroup, PairGood}
 use Rattle.planner.proofs.Good.{rest-proper}
@@ -25,26 +25,26 @@ use Rattle.planner.proofs.Good.{rest-proper}
 -- what an edit that is not refused says
 record Unrefused (most : ℕ) (k : Kind) (new : List Rule) (rest : ℕ) : Type 0 where
   pub count : given (badCount most (length new)) 2 ≡ 0
-  pub rules : faults (put k) ≡ 0
+  pub rules : rulesRefusal (put k) ≡ 0
   pub full : given (not (complete new)) 5 ≡ 0
   pub room : rest ≡ 0
 
 unrefused : (most : ℕ) (k : Kind) (new : List Rule) (rest : ℕ)
-    → orElse (given (badCount most (length new)) 2) (orElse (faults (put k)) (orElse (given (not (complete new)) 5) rest)) ≡ 0 → Unrefused most k new rest
+    → orElse (given (badCount most (length new)) 2) (orElse (rulesRefusal (put k)) (orElse (given (not (complete new)) 5) rest)) ≡ 0 → Unrefused most k new rest
 unrefused most k new rest h =
     let a = orElse-zero (given (badCount most (length new)) 2) _ h in
-    let b = orElse-zero (faults (put k)) _ (a .1) in
+    let b = orElse-zero (rulesRefusal (put k)) _ (a .1) in
     let c = orElse-zero (given (not (complete new)) 5) rest (b .1) in
     record { count = a .0; rules = b .0; full = c .0; room = c .1 }
 
--- the changed list has no fault
+-- the changed list is readable
 changed-good : (most i : ℕ) (k : Kind) (l : List Rule) {rest : ℕ} → listRefusal most l ≡ 0 → Unrefused most k (changed i k l) rest → listRefusal most (changed i k l) ≡ 0
 unfolding listRefusal
 changed-good most i k l h u =
     let e = three-parts i (out k) l in
-    let clean : faults (front i l ++ (gone i k l ++ back i k l)) ≡ 0 = ap faults e ∙ list-accepted most l h .0 in
-    let f = changed-faults (front i l) (gone i k l) (put k) (back i k l) clean ∙ u .rules in
-    orElse-both (given (badCount most (length (changed i k l))) 2) _ (u .count) (orElse-both (faults (changed i k l)) _ f (u .full))
+    let clean : rulesRefusal (front i l ++ (gone i k l ++ back i k l)) ≡ 0 = ap rulesRefusal e ∙ list-accepted most l h .0 in
+    let f = changed-rulesRefusal (front i l) (gone i k l) (put k) (back i k l) clean ∙ u .rules in
+    orElse-both (given (badCount most (length (changed i k l))) 2) _ (u .count) (orElse-both (rulesRefusal (changed i k l)) _ f (u .full))
 
 -- number 7 is not given: all boxes and the own rules are within the total
 room-within : (lim : Limits) (o : Order) (l : List Slot) → room lim o l ≡ 0 → length (o .own) + length (together (map boxesOf l)) ≤ lim .total
@@ -101,7 +101,7 @@ module _ (lim : Limits) (p : Pair) (good : PairGood lim p) where
     new-good : listRefusal (lim .gate) (changed i k gate) ≡ 0
     new-good = changed-good (lim .gate) i k gate (good .gate) u
 
-    clean : faults (x ++ (n ++ y)) ≡ 0
+    clean : rulesRefusal (x ++ (n ++ y)) ≡ 0
     clean = list-accepted (lim .gate) (changed i k gate) new-good .0
 
     -- as many kept groups stand before the place as rules deny there, and as many behind it
@@ -140,7 +140,7 @@ module _ (lim : Limits) (p : Pair) (good : PairGood lim p) where
     }
       where
         new-proper : Each ProperGroup (map boxesOf (slots f (allowsIn x) n))
-        new-proper = rest-proper (p .order) x n (orElse-zero (faults (x ++ n)) (faults y) (sym (faults-append (x ++ n) y) ∙ rw append-assoc clean) .0)
+        new-proper = rest-proper (p .order) x n (orElse-zero (rulesRefusal (x ++ n)) (rulesRefusal y) (sym (rulesRefusal-append (x ++ n) y) ∙ rw append-assoc clean) .0)
 
   pub edited-good : (e : Edit) → changeRefusal lim e p ≡ 0 → PairGood lim (edited e p)
   edited-good e h = go (e .inGate) h

@@ -8,7 +8,7 @@ use Rattle.policy.specs.Fields.{highest, limits}
 use Rattle.policy.specs.Ranges.{fullOver}
 use Rattle.policy.specs.Rules.{rule, sound, complete}
 use Rattle.policy.specs.Cut.{pieces, cut, cutEach, group}
-use Rattle.policy.specs.Refusals.{accepted, faults}
+use Rattle.policy.specs.Refusals.{accepted, rulesRefusal}
 use Rattle.policy.specs.Move.{slots, boxesOf, together, over, overSlot, anyOver, work, room, Order, moved}
 use Rattle.policy.specs.Example.{example}
 use Rattle.policy.proofs.Refused.{listRefusal, moveRefusal}
@@ -41,7 +41,7 @@ pub sizes-printed : SizesTheorem
 sizes-printed = ((refl, refl), (refl, refl, refl), (refl, refl, refl), refl)
 
 none : moveRefusal limits example ≡ 0
-unfolding moveRefusal listRefusal slots boxesOf group cut everyBoth pieces cutEach together highest fullOver room work anyOver overSlot over faults sound complete
+unfolding moveRefusal listRefusal slots boxesOf group cut everyBoth pieces cutEach together highest fullOver room work anyOver overSlot over rulesRefusal sound complete
 none = refl
 
 pub example-accepted : moveOf limits (orderBytes example) ≡ accepted (moved example)

@@ -12,14 +12,14 @@ use Rattle.lists.proofs.Lists.{each-append, each-drop, map-append, append-none}
 use Rattle.policy.specs.Fields.{countSize, recordSize, limits, workSize}
 use Rattle.policy.specs.Ranges.{Region}
 use Rattle.policy.specs.Rules.{Rule, denies, sound}
-use Rattle.policy.specs.Refusals.{Outcome, refused, faults, numberOf}
+use Rattle.policy.specs.Refusals.{Outcome, refused, rulesRefusal, numberOf}
 use Rattle.policy.specs.Move.{Slot, kept, boxesOf, together, anyOver, work, room, Order, Pair, groupsOf}
 use Rattle.policy.proofs.Refused.{listRefusal}
 use Rattle.policy.specs.declared.Answer.the-variants.{Length, Refused}
 use Rattle.policy.specs.declared.Refusal.{Refusal}
 use Rattle.policy.specs.declared.Refusal.the-variants.{TooManyBoxes}
 use Rattle.policy.proofs.Numbers.{orElse-zero}
-use Rattle.policy.proofs.Edits.{kept-boxes, kept-over, over-append, together-append, faults-append, list-accepted}
+use Rattle.policy.proofs.Edits.{kept-boxes, kept-over, over-append, together-append, rulesRefusal-append, list-accepted}
 use Rattle.wire.specs.Numbers.{Byte}
 use Rattle.wire.specs.Records.{rulesIn}
 use Rattle.wire.specs.Buffers.{filled, written, lengthOf}
@@ -28,7 +28,7 @@ use Rattle.wire.proofs.Numbers.{numberBytes-length, bytes-take, bytes-drop}
 use Rattle.sheet.specs.Orders.{orderBytes}
 use Rattle.sheet.specs.Pairs.{groupsBytes, pairBytes, pairSize, groupBytes}
 use Rattle.sheet.specs.Steps.{rulesOf, listsOf, groupsFrom, boxCount}
-use Rattle.sheet.proofs.Outcomes.{faultless}
+use Rattle.sheet.proofs.Outcomes.{readable}
 use Rattle.sheet.proofs.Pairs.{ProperGroup, PairGood, denies-most}
 use Rattle.sheet.proofs.Accepted.{OrderAccepted, order-accepted}
 use Rattle.draft.specs.Steps.{stretch, draftSize, Ready, DraftedGroups, partOf, sheetOf, orderOf, groupsAt, sheetAround, AroundPut, runSize, GroupsHeld, keptSlots, slotsBehind, slotsAround, Told}
@@ -48,7 +48,7 @@ use Rattle.wire.proofs.Items.{bytes-append}
 
 -- A refusal writes nothing.
 pub refuses : {A : Type 0} (bytes : A → List ℕ) (size : ℕ) (x : Outcome A) (out w w′ : List ℕ) (f : Refusal)
-    → x ≡ refused (numberOf f) → drop (workSize limits) w′ ≡ drop (workSize limits) w → Writes bytes size x out w (Refused f) out w′
+    → x ≡ refused (numberOf f) → drop workSize w′ ≡ drop workSize w → Writes bytes size x out w (Refused f) out w′
 unfolding lengthOf
 refuses bytes size x out w w′ f e b = record { answer = rw e; result = refusal-leaves bytes size out e; beyond = b }
 
@@ -63,11 +63,11 @@ part-is from used sheet h k =
 pub order-bytes : (list sheet : List ℕ) (t : Standing) → Each Byte list → Each Byte sheet → Each Byte (orderOf list t sheet)
 order-bytes list sheet t a b = each-append Byte list (partOf (t .middle) (t .third) sheet) a (bytes-take (t .third - t .middle) (drop (t .middle) sheet) (bytes-drop (t .middle) sheet b))
 
--- groups worked out anew from rules without fault are proper
-stretch-proper : (i to : ℕ) (rules : List ℕ) → i ≤ to → faults (rulesIn to rules) ≡ 0 → Each ProperGroup (map boxesOf (stretch i to rules))
+-- groups worked out anew from sound rules are proper
+stretch-proper : (i to : ℕ) (rules : List ℕ) → i ≤ to → rulesRefusal (rulesIn to rules) ≡ 0 → Each ProperGroup (map boxesOf (stretch i to rules))
 stretch-proper i to rules h f =
     let l : List Rule = rulesIn to rules in
-    rw (rules-front i to rules h) at (rest-proper (record { gate = l; own = [] }) (take i l) (drop i l) (ap faults (take-append-drop i l) ∙ f))
+    rw (rules-front i to rules h) at (rest-proper (record { gate = l; own = [] }) (take i l) (drop i l) (ap rulesRefusal (take-append-drop i l) ∙ f))
 
 module _ {sheet list w : List ℕ} {t : Standing} {gate own : ℕ} {v : Around} (ready : Finishing sheet t list gate own v w) (bytes : Each Byte (orderOf list t sheet)) where
   abbrev middle : ℕ
@@ -122,21 +122,21 @@ module _ {sheet list w : List ℕ} {t : Standing} {gate own : ℕ} {v : Around} 
   front-is : take (runSize (v .earlier) groups) (drop from sheet) ≡ groupsBytes (groupsFrom (v .earlier) groups)
   front-is = sym (take-take (runSize (v .earlier) groups) (used - from) (drop from sheet) (omega (arith, front-held .there, groups-long))) ∙ sym (front-held .bytes)
 
-  -- the new A, in the bytes that are written, is without fault, and so are its rules up to one place
+  -- the new A, in the bytes that are written, is readable, and its rules up to one place are sound
   clean : listRefusal (limits .gate) (rulesOf gate list) ≡ 0
-  clean = rw (← ready .front) (a .gateFaultless)
+  clean = rw (← ready .front) (a .gateReadable)
 
   pub rules-good : (i : ℕ) → i ≤ gate → (recordSize * i ≤ length (drop countSize list)) × (every sound (rulesIn i (drop countSize list)) ≡ true)
   rules-good i h =
-      let f = faultless (limits .gate) (rulesOf gate list) clean in
+      let f = readable (limits .gate) (rulesOf gate list) clean in
       (rw length-drop (omega (arith, ready .long)), rules-sound-front i gate (drop countSize list) h (f .sounds))
 
   anew-proper : Each ProperGroup (groupsOf anew)
   anew-proper =
       let q = ready .placed in
       let f = list-accepted (limits .gate) (rulesOf gate list) clean .0 in
-      let s : faults (rulesIn (v .to) (drop countSize list)) ≡ 0 =
-      rw (rules-front (v .to) gate (drop countSize list) (q .inGate)) at (orElse-zero (faults (take (v .to) (rulesOf gate list))) (faults (drop (v .to) (rulesOf gate list))) (sym (faults-append (take (v .to) (rulesOf gate list)) (drop (v .to) (rulesOf gate list))) ∙ rw (take-append-drop (v .to) (rulesOf gate list)) f) .0) in
+      let s : rulesRefusal (rulesIn (v .to) (drop countSize list)) ≡ 0 =
+      rw (rules-front (v .to) gate (drop countSize list) (q .inGate)) at (orElse-zero (rulesRefusal (take (v .to) (rulesOf gate list))) (rulesRefusal (drop (v .to) (rulesOf gate list))) (sym (rulesRefusal-append (take (v .to) (rulesOf gate list)) (drop (v .to) (rulesOf gate list))) ∙ rw (take-append-drop (v .to) (rulesOf gate list)) f) .0) in
       stretch-proper (v .place) (v .to) (drop countSize list) (q .upTo) s
 
   behind-groups : groupsOf behind ≡ groupsOf anew ++ drop (v .later) (groupsFrom (v .groups) groups)
@@ -160,7 +160,7 @@ module _ {sheet list w : List ℕ} {t : Standing} {gate own : ℕ} {v : Around} 
   short = omega (arith, ready .counted, denies-most (rulesOf gate list), rulesIn-length gate (drop countSize list), a .place .gateLimit)
 
   -- drafting the groups from the place on, where none is kept behind it
-  pub finish-ready : (rules draft : List ℕ) (front : ℕ) → rules ≡ drop countSize list → front ≡ boxCount (v .earlier) groups → draftSize limits ≤ length draft → Ready rules (v .place) (v .to) draft 0 front w
+  pub finish-ready : (rules draft : List ℕ) (front : ℕ) → rules ≡ drop countSize list → front ≡ boxCount (v .earlier) groups → draftSize ≤ length draft → Ready rules (v .place) (v .to) draft 0 front w
   finish-ready rules draft front e f roomy =
       let q = ready .placed in
       let g = rules-good (v .to) (q .inGate) in
@@ -174,7 +174,7 @@ module _ {sheet list w : List ℕ} {t : Standing} {gate own : ℕ} {v : Around} 
         workRoom = ready .workRoom;
       }
 
-  pub finish-drafted : (q r : Drafted) (rules draft draft′ w′ : List ℕ) (front : ℕ) → q ≡ r → rules ≡ drop countSize list → AllAnew v → draftSize limits ≤ length draft → length draft′ ≡ length draft
+  pub finish-drafted : (q r : Drafted) (rules draft draft′ w′ : List ℕ) (front : ℕ) → q ≡ r → rules ≡ drop countSize list → AllAnew v → draftSize ≤ length draft → length draft′ ≡ length draft
       → DraftedGroups rules (v .place) (v .to) draft 0 front w q draft′ w′ → Behind behind front r draft′
   finish-drafted q r rules draft draft′ w′ front i e k roomy j x =
       let m = groups-count (v .groups) groups in
@@ -184,12 +184,12 @@ module _ {sheet list w : List ℕ} {t : Standing} {gate own : ℕ} {v : Around} 
       rw b (drawn-behind r (rw (i, e) at (x .drafting)) j anew-proper (omega (arith, all-length, ap length b)) roomy)
 
   module _ {front : ℕ} (counted : front ≡ boxCount (v .earlier) groups) {s : List ℕ} where
-    pub finish-six : {w′ : List ℕ} (f : Refusal) → numberOf f ≡ 6 → Behind behind front D.TooManyPieces s → drop (workSize limits) w′ ≡ drop (workSize limits) w
+    pub finish-six : {w′ : List ℕ} (f : Refusal) → numberOf f ≡ 6 → Behind behind front D.TooManyPieces s → drop workSize w′ ≡ drop workSize w
         → Finishes sheet t list gate own v w (Refused f) sheet w′
     unfolding slotted room work Told
     finish-six {w′} f e x beyond =
         let over : anyOver (limits .pieces) l ≡ true = over-append (limits .pieces) (keptSlots 0 (v .earlier) groups) behind ∙ rw (kept-over (limits .pieces) (groupsFrom (v .earlier) groups)) (x .told) in
-        refuses pairBytes (pairSize limits) _ sheet w w′ f (rw (over, e)) beyond
+        refuses pairBytes pairSize _ sheet w w′ f (rw (over, e)) beyond
 
     module _ {b end : ℕ} (x : Behind behind front (D.Groups b end) s) where
       light : anyOver (limits .pieces) l ≡ false
@@ -211,11 +211,11 @@ module _ {sheet list w : List ℕ} {t : Standing} {gate own : ℕ} {v : Around} 
       own-are : length (o .own) ≡ own
       own-are = rulesIn-length own (drop countSize (drop (listSize gate) order))
 
-      pub finish-seven : {w′ : List ℕ} → limits .total < b + own → drop (workSize limits) w′ ≡ drop (workSize limits) w → Finishes sheet t list gate own v w (Refused TooManyBoxes) sheet w′
+      pub finish-seven : {w′ : List ℕ} → limits .total < b + own → drop workSize w′ ≡ drop workSize w → Finishes sheet t list gate own v w (Refused TooManyBoxes) sheet w′
       unfolding slotted room work
       finish-seven {w′} h beyond =
           let t : limits .total < length (together (p .groups)) + length (o .own) = omega (arith, boxes-are, own-are) in
-          refuses pairBytes (pairSize limits) _ sheet w w′ TooManyBoxes (rw (light, lt-ltb _ _ t)) beyond
+          refuses pairBytes pairSize _ sheet w w′ TooManyBoxes (rw (light, lt-ltb _ _ t)) beyond
 
       -- within the total, the groups before the place and those drafted are section C of the new pair
       module _ (h : b + own ≤ limits .total) where
@@ -227,8 +227,8 @@ module _ {sheet list w : List ℕ} {t : Standing} {gate own : ℕ} {v : Around} 
 
         good : PairGood limits p
         good = record {
-          gate = a .gateFaultless;
-          own = a .ownFaultless;
+          gate = a .gateReadable;
+          own = a .ownReadable;
           counted = length-map l boxesOf ∙ ready .counted ∙ ap denies (sym (ready .front));
           groups = record { boxes = proper-all; within = omega (arith, boxes-are, own-are) };
         }
@@ -260,7 +260,7 @@ module _ {sheet list w : List ℕ} {t : Standing} {gate own : ℕ} {v : Around} 
           pub finish-put : (rest : ℕ) → rest ≡ n - v .earlier → AroundPut sheet t size list gate n rest (take end s)
           finish-put rest e =
               let k : rest ≡ length (groupsOf behind) = omega (arith, count-is, ready .counted, all-length, length-map behind boxesOf) in
-              let t = pair-short limits p (omega arith) (omega arith) good (omega arith) in
+              let t = pair-short limits p (omega arith) (omega arith) good (omega arith) (omega arith) (omega arith) in
               let fl : length (take size (drop from sheet)) ≡ size = length-take-le size (drop from sheet) (rw length-drop (omega (arith, sized, front-held .there, groups-long, ready .end, ready .start))) in
               let b : length (partOf middle third sheet) ≡ third - middle = length-take-le (third - middle) (drop middle sheet) (rw length-drop (omega (arith, ready .upTo, ready .start, ready .end))) in
               let j : length (sheetOf order n section) ≡ length list + (third - middle) + countSize + size + length (take end s) = rw (length-append, length-append, length-append, numberBytes-length, length-append, fl, b) (omega arith) in
@@ -277,8 +277,8 @@ module _ {sheet list w : List ℕ} {t : Standing} {gate own : ℕ} {v : Around} 
                 room = ready .sheetRoom;
               }
 
-          pub finish-accepted : {w′ : List ℕ} (r : ℕ) (sheet′ : List ℕ) → drop (workSize limits) w′ ≡ drop (workSize limits) w
-              → (r ≡ length (sheetAround sheet t size list n (take end s))) × (sheet′ ≡ filled (pairSize limits) sheet (sheetAround sheet t size list n (take end s)))
+          pub finish-accepted : {w′ : List ℕ} (r : ℕ) (sheet′ : List ℕ) → drop workSize w′ ≡ drop workSize w
+              → (r ≡ length (sheetAround sheet t size list n (take end s))) × (sheet′ ≡ filled pairSize sheet (sheetAround sheet t size list n (take end s)))
               → Finishes sheet t list gate own v w (Length r) sheet′ w′
           unfolding slotted lengthOf written
           finish-accepted r sheet′ beyond e = record {

@@ -10,22 +10,22 @@ use lib.Seq.{drop-at}
 use borrow.Author.Tests.{ltb-false, le-ltb}
 use Rattle.lists.specs.Lists.{Each, everyBoth}
 use Rattle.lists.proofs.Lists.{each-append, each-drop, each-imp, every-each, map-append}
-use Rattle.policy.specs.Fields.{highest, boxSize, countSize, Limits}
+use Rattle.policy.specs.Fields.{highest, boxSize, countSize, Limits, limits}
 use Rattle.policy.specs.Ranges.{Region, proper, fullOver}
 use Rattle.policy.specs.Rules.{Rule, sound, complete, allowsIn, Proper}
-use Rattle.policy.specs.Refusals.{faults}
+use Rattle.policy.specs.Refusals.{rulesRefusal}
 use Rattle.policy.specs.Move.{Slot, slots, slotsOf, startOf, boxesOf, together, work, room, Order, Pair, moved, denials, gateList, cellList}
 use Rattle.policy.proofs.Refused.{listRefusal, moveRefusal}
 use Rattle.policy.proofs.Numbers.{orElse-zero, orElse-both, given-zero}
 use Rattle.policy.proofs.Proper.{moved-proper}
 use Rattle.policy.proofs.Places.{cell-length}
-use Rattle.policy.proofs.Edits.{slots-append, move-accepted, list-accepted, slots-length, faults-append}
+use Rattle.policy.proofs.Edits.{slots-append, move-accepted, list-accepted, slots-length, rulesRefusal-append}
 use Rattle.wire.proofs.Numbers.{numberBytes-length}
 use Rattle.sheet.specs.Orders.{orderBytes}
 use Rattle.sheet.specs.Pairs.{pairBytes, pairSize}
 use Rattle.wire.proofs.Lists.{listBytes-length}
-use Rattle.sheet.proofs.Outcomes.{faultless}
-use Rattle.sheet.proofs.Orders.{faultless-fits}
+use Rattle.sheet.proofs.Outcomes.{readable}
+use Rattle.sheet.proofs.Orders.{readable-fits}
 use Rattle.draft.proofs.Laid.{groups-length}
 use Rattle.sheet.proofs.Pairs.{ProperGroup, PairGood, denies-most}
 use Rattle.wire.specs.Lists.{listSize}
@@ -47,8 +47,8 @@ moved-good lim o h =
       };
     }
 
--- the groups of a list without fault, behind some of its rules
-pub rest-proper : (o : Order) (x l : List Rule) → faults (x ++ l) ≡ 0 → Each ProperGroup (map boxesOf (slots (startOf o) (allowsIn x) l))
+-- the groups of a readable list, behind some of its rules
+pub rest-proper : (o : Order) (x l : List Rule) → rulesRefusal (x ++ l) ≡ 0 → Each ProperGroup (map boxesOf (slots (startOf o) (allowsIn x) l))
 unfolding slots
 rest-proper o x l h =
     let before : List (List Region) = map boxesOf (slots (startOf o) [] x) in
@@ -63,21 +63,21 @@ module _ (lim : Limits) (p : Pair) (u : lim .gate < 65536) (v : lim .own < 65536
   pub pair-length : length (pairBytes p) ≡ listSize (length (p .order .gate)) + listSize (length (p .order .own)) + (countSize + (countSize * length (p .groups) + boxSize * length (together (p .groups))))
   unfolding pairBytes orderBytes
   pair-length =
-      let g = listBytes-length (p .order .gate) (faultless-fits (lim .gate) (p .order .gate) u (good .gate) .rules) in
-      let w = listBytes-length (p .order .own) (faultless-fits (lim .own) (p .order .own) v (good .own) .rules) in
+      let g = listBytes-length (p .order .gate) (readable-fits (lim .gate) (p .order .gate) u (good .gate) .rules) in
+      let w = listBytes-length (p .order .own) (readable-fits (lim .own) (p .order .own) v (good .own) .rules) in
       let c = groups-length (p .groups) (good .groups .boxes) in
       rw (length-append, length-append, length-append, numberBytes-length) (omega arith)
 
-  pub pair-short : lim .own ≤ lim .total → length (pairBytes p) ≤ pairSize lim
-  pair-short h =
-      let a = faultless (lim .gate) (p .order .gate) (good .gate) in
-      let b = faultless (lim .own) (p .order .own) (good .own) in
+  pub pair-short : lim .gate ≤ limits .gate → lim .own ≤ limits .own → lim .total ≤ limits .total → length (pairBytes p) ≤ pairSize
+  pair-short x y z =
+      let a = readable (lim .gate) (p .order .gate) (good .gate) in
+      let b = readable (lim .own) (p .order .own) (good .own) in
       let d = denies-most (p .order .gate) in
       let t = good .groups .within in
       let n = good .counted in
       rw pair-length (omega arith)
 
--- The lists of an accepted move have no fault as lists of the cell's total.
+-- The lists of an accepted move are readable as lists of the cell's total.
 complete-behind : (x l : List Rule) → complete l ≡ true → complete (x ++ l) ≡ true
 unfolding complete
 complete-behind [] l h = h
@@ -85,8 +85,8 @@ complete-behind (r ∷ []) [] h = absurd (false≢true h)
 complete-behind (r ∷ []) (q ∷ l) h = h
 complete-behind (r ∷ (q ∷ x)) l h = complete-behind (q ∷ x) l h
 
-denials-sound : (bs : List Region) → Each Proper bs → faults (denials bs) ≡ 0
-unfolding denials faults sound Each
+denials-sound : (bs : List Region) → Each Proper bs → rulesRefusal (denials bs) ≡ 0
+unfolding denials rulesRefusal sound Each
 denials-sound [] h = refl
 denials-sound (b ∷ bs) h = rw (h .0) (denials-sound bs (h .1))
 
@@ -95,12 +95,12 @@ unfolding Each together
 together-each P [] h = tt
 together-each P (g ∷ gs) h = each-append P g (together gs) (h .0) (together-each P gs (h .1))
 
-list-none : (most : ℕ) (l : List Rule) → 1 ≤ length l → length l ≤ most → faults l ≡ 0 → complete l ≡ true → listRefusal most l ≡ 0
+list-none : (most : ℕ) (l : List Rule) → 1 ≤ length l → length l ≤ most → rulesRefusal l ≡ 0 → complete l ≡ true → listRefusal most l ≡ 0
 unfolding listRefusal
 list-none most l a b f c = rw (le-ltb (length l) 1 a, le-ltb most (length l) b, f, c)
 
 pub gate-list-good : (lim : Limits) (p : Pair) → 1 ≤ lim .total → listRefusal (lim .total) (gateList p) ≡ 0
-unfolding faults sound complete highest everyBoth fullOver
+unfolding rulesRefusal sound complete highest everyBoth fullOver
 gate-list-good lim p h = list-none (lim .total) (gateList p) (omega arith) (omega arith) refl refl
 
 pub cell-list-good : (lim : Limits) (o : Order) → moveRefusal lim o ≡ 0 → listRefusal (lim .total) (cellList (moved o)) ≡ 0
@@ -109,10 +109,10 @@ cell-list-good lim o h =
     let a = move-accepted lim o h in
     let f = list-accepted (lim .gate) (o .gate) (a .gate) in
     let w = list-accepted (lim .own) (o .own) (a .own) in
-    let b = faultless (lim .own) (o .own) (a .own) in
+    let b = readable (lim .own) (o .own) (a .own) in
     let bs : List Region = together (moved o .groups) in
     let n = cell-length (moved o) in
     let t = g .groups .within in
     list-none (lim .total) (cellList (moved o)) (omega arith) (omega arith)
-    (faults-append (denials bs) (o .own) ∙ orElse-both _ _ (denials-sound bs (together-each Proper (moved o .groups) (moved-proper o (f .0)))) (w .0))
+    (rulesRefusal-append (denials bs) (o .own) ∙ orElse-both _ _ (denials-sound bs (together-each Proper (moved o .groups) (moved-proper o (f .0)))) (w .0))
     (complete-behind (denials bs) (o .own) (w .1))

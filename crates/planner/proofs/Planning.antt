@@ -29,7 +29,7 @@ use Rattle.planner.proofs.Finished.{refuses}
 
 pub plan-refused : (s out w : List ℕ) (f : Refusal) → orderIn limits s ≡ refused (numberOf f) → Planned s out w (Refused f) out w
 unfolding moveOf
-plan-refused s out w f e = refuses pairBytes (pairSize limits) _ out w w f (rw e) refl
+plan-refused s out w f e = refuses pairBytes pairSize _ out w w f (rw e) refl
 
 -- Every group is worked out anew.
 abbrev pub fresh : ℕ → Around
@@ -51,7 +51,7 @@ module _ {s : List ℕ} {n m middle : ℕ} (a : OrderAccepted s n m middle) wher
     none : orderOf s t sheet ≡ s
     none = let z : end - end ≡ 0 = omega arith in rw z (append-none s)
 
-    pub plan-ready : {w : List ℕ} (to : ℕ) → to ≡ n → end ≡ length s → OrderRead s (Parts n m middle) → pairSize limits ≤ length sheet → workSize limits ≤ length w
+    pub plan-ready : {w : List ℕ} (to : ℕ) → to ≡ n → end ≡ length s → OrderRead s (Parts n m middle) → pairSize ≤ length sheet → workSize ≤ length w
         → Finishing sheet t s n m (fresh to) w
     unfolding groupsFrom eachBytes together Each
     plan-ready to e f reads h j =

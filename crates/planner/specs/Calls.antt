@@ -15,15 +15,15 @@ use Rattle.sheet.specs.Pairs.{pairIn, pairBytes, pairSize}
 use Rattle.wire.specs.Lists.{listSize, listBytes}
 
 -- What is left of the work buffer: 1 leaves it alone, any other answer leaves its front zero.
-unfoldable pub workAfter : Limits → Bool → List ℕ → List ℕ
-workAfter lim lent work = cond lent (zeroed 0 (workSize lim) work) work
+unfoldable pub workAfter : Bool → List ℕ → List ℕ
+workAfter lent work = cond lent (zeroed 0 workSize work) work
 
 -- A call that writes: number 1, which is first, unless all that is lent is long enough; then what it comes to. It determines
 -- the answer, the buffer that is written and the work buffer.
 pub record Call {A : Type 0} (bytes : A → List ℕ) (size : ℕ) (lent : Bool) (x : Outcome A) (out w : List ℕ) (r : Answer) (out′ w′ : List ℕ) : Type 0 where
   pub answer : said r ≡ lengthOf bytes (test lent 1 x)
   pub result : out′ ≡ written bytes size out (test lent 1 x)
-  pub work : w′ ≡ workAfter limits lent w
+  pub work : w′ ≡ workAfter lent w
 
 -- Move: what reading the order sheet gives, then 6 and 7; accepted, the moved pair.
 unfoldable pub planOf : Limits → Order → Outcome Pair
@@ -33,10 +33,10 @@ unfoldable pub moveOf : Limits → List ℕ → Outcome Pair
 moveOf lim s = andThen (orderIn lim s) (planOf lim)
 
 abbrev pub bothLent : ℕ → List ℕ → List ℕ → Bool
-bothLent size out w = roomFor size out && roomFor (workSize limits) w
+bothLent size out w = roomFor size out && roomFor workSize w
 
 abbrev pub Moves : List ℕ → List ℕ → List ℕ → Answer → List ℕ → List ℕ → Type 0
-Moves s out w r out′ w′ = Call pairBytes (pairSize limits) (bothLent (pairSize limits) out w) (moveOf limits s) out w r out′ w′
+Moves s out w r out′ w′ = Call pairBytes pairSize (bothLent pairSize out w) (moveOf limits s) out w r out′ w′
 
 -- Check: what reading the pair sheet gives, then 6 and 8.
 unfoldable pub checkedOf : Limits → Pair → Outcome Pair
@@ -47,8 +47,8 @@ checkOf lim s = andThen (pairIn lim s) (checkedOf lim)
 
 -- Nothing is written, so a length of 0 says yes.
 pub record Checks (s w : List ℕ) (r : Answer) (w′ : List ℕ) : Type 0 where
-  pub answer : said r ≡ answered 0 (test (roomFor (workSize limits) w) 1 (checkOf limits s))
-  pub work : w′ ≡ workAfter limits (roomFor (workSize limits) w) w
+  pub answer : said r ≡ answered 0 (test (roomFor workSize w) 1 (checkOf limits s))
+  pub work : w′ ≡ workAfter (roomFor workSize w) w
 
 -- Cell list and gate list: check, then the list that is wanted.
 unfoldable pub cellBytes : Pair → List ℕ
@@ -71,6 +71,6 @@ Lists bytes size s out w r out′ w′ = Call bytes size (bothLent size out w) (
 abbrev pub SizesTheorem : Type 0
 SizesTheorem =
     ((boxSize ≡ 26) × (recordSize ≡ 27))
-    × ((gateSize limits ≡ 1730) × (ownSize limits ≡ 6914) × (orderSize limits ≡ 8644))
-    × ((pairSize limits ≡ 28742) × (cellListSize ≡ 27650) × (gateListSize ≡ 29))
-    × (workSize limits ≡ 53248)
+    × ((gateSize ≡ 1730) × (ownSize ≡ 6914) × (orderSize ≡ 8644))
+    × ((pairSize ≡ 28742) × (cellListSize ≡ 27650) × (gateListSize ≡ 29))
+    × (workSize ≡ 53248)

@@ -53,7 +53,7 @@ editedOf lim s a = andThen (pairIn lim s) (changeOf lim a)
 
 -- Number 1: the sheet's buffer and the work buffer are long enough, and the stated length is not above the former.
 abbrev pub editLent : List ℕ → ℕ → List ℕ → Bool
-editLent buffer used w = roomFor (pairSize limits) buffer && (leb used (length buffer) && roomFor (workSize limits) w)
+editLent buffer used w = roomFor pairSize buffer && (leb used (length buffer) && roomFor workSize w)
 
 abbrev pub Edits : List ℕ → ℕ → Asked → List ℕ → Answer → List ℕ → List ℕ → Type 0
-Edits buffer used a w r buffer′ w′ = Call pairBytes (pairSize limits) (editLent buffer used w) (editedOf limits (take used buffer) a) buffer w r buffer′ w′
+Edits buffer used a w r buffer′ w′ = Call pairBytes pairSize (editLent buffer used w) (editedOf limits (take used buffer) a) buffer w r buffer′ w′

@@ -22,11 +22,11 @@ use Rattle.wire.specs.Buffers.{written, lengthOf}
 pub record Writes {A : Type 0} (bytes : A → List ℕ) (size : ℕ) (x : Outcome A) (out w : List ℕ) (r : Answer) (out′ w′ : List ℕ) : Type 0 where
   pub answer : said r ≡ lengthOf bytes x
   pub result : out′ ≡ written bytes size out x
-  pub beyond : drop (workSize limits) w′ ≡ drop (workSize limits) w
+  pub beyond : drop workSize w′ ≡ drop workSize w
 
 -- Move: the order sheet read and planned.
 abbrev pub Planned : List ℕ → List ℕ → List ℕ → Answer → List ℕ → List ℕ → Type 0
-Planned s out w r out′ w′ = Writes pairBytes (pairSize limits) (moveOf limits s) out w r out′ w′
+Planned s out w r out′ w′ = Writes pairBytes pairSize (moveOf limits s) out w r out′ w′
 
 -- The pair of new lists and slots: 6 and 7, or accepted.
 unfoldable pub slotted : Order → List Slot → Outcome Pair
@@ -48,13 +48,13 @@ pub record Finishing (sheet : List ℕ) (t : Standing) (list : List ℕ) (gate o
   pub less : t .count ≤ gate + 1
   pub old : recordSize * t .count ≤ t .middle
   pub moved : length list ≡ movedTo (t .middle) (t .count) gate
-  pub sheetRoom : pairSize limits ≤ length sheet
-  pub workRoom : workSize limits ≤ length work
+  pub sheetRoom : pairSize ≤ length sheet
+  pub workRoom : workSize ≤ length work
 
 -- What it answers and leaves: the pair of the new lists and the groups around the place.
 abbrev pub Finishes : List ℕ → Standing → List ℕ → ℕ → ℕ → Around → List ℕ → Answer → List ℕ → List ℕ → Type 0
 Finishes sheet t list gate own v w r sheet′ w′ =
-    Writes pairBytes (pairSize limits)
+    Writes pairBytes pairSize
     (slotted (listsOf gate own (listSize gate) (orderOf list t sheet)) (slotsAround v (groupsAt t sheet) (drop countSize list)))
     sheet w r sheet′ w′
 

@@ -30,8 +30,8 @@ pub record Held : Type 0 where
   pub buffer : List ℕ
   pub used : ℕ
 
-abbrev pub held : Limits → List ℕ → Pair → Held
-held lim out p = record { buffer = filled (pairSize lim) out (pairBytes p); used = length (pairBytes p) }
+abbrev pub held : List ℕ → Pair → Held
+held out p = record { buffer = filled pairSize out (pairBytes p); used = length (pairBytes p) }
 
 -- Demand 2, of the bytes s and the pair p that a move makes of them. The lists o are those that the bytes say, and say the same
 -- bytes; the pair's sheet reads as itself and passes check; the bytes that the two list calls write of it read as its two lists,
@@ -54,7 +54,7 @@ pub record DemandTwo (lim : Limits) (s : List ℕ) (o : Order) (p : Pair) : Type
 abbrev pub MoveTheorem : Type 0
 MoveTheorem =
     (s out w left w′ : List ℕ) (n : ℕ) → Each Byte s → Moves s out w (Length n) left w′
-    → (o : Order) × (p : Pair) × DemandTwo limits s o p × (record { buffer = left; used = n } ≡ held limits out p)
+    → (o : Order) × (p : Pair) × DemandTwo limits s o p × (record { buffer = left; used = n } ≡ held out p)
 
 -- What check accepts is, byte for byte, what a move of its lists writes, and that move is accepted.
 pub record CheckIsMove (lim : Limits) (s : List ℕ) (p : Pair) : Type 0 where
@@ -107,7 +107,7 @@ pub record MoveAndEdits (o : Order) (out : List ℕ) (l : List EditCall) (last :
 abbrev pub RunTheorem : Type 0
 RunTheorem =
     (o : Order) (out : List ℕ) (l : List EditCall) (last : Held) → MoveAndEdits o out l last
-    → (w left w′ : List ℕ) (r : Answer) → roomFor (workSize limits) w ≡ true → Moves (orderBytes (allDone (acceptedEdits l) o)) out w r left w′
+    → (w left w′ : List ℕ) (r : Answer) → roomFor workSize w ≡ true → Moves (orderBytes (allDone (acceptedEdits l) o)) out w r left w′
     → (r ≡ Length (last .used)) × (left ≡ last .buffer)
 
 -- Demand 3, the length: a buffer that begins with a pair sheet of n bytes, whoever wrote it, and is told any other length. The
@@ -135,14 +135,14 @@ pub record FreshMove (o : Order) (r : Answer) (left : List ℕ) : Type 0 where
   pub out : List ℕ
   pub work : List ℕ
   pub work′ : List ℕ
-  pub lent : bothLent (pairSize limits) out work ≡ true
+  pub lent : bothLent pairSize out work ≡ true
   pub call : Moves (orderBytes o) out work r left work′
 
 -- Two calls that write a pair sheet answer the same: the same length and the same bytes up to the largest sheet's end, or the
 -- same number.
 pub record SameAnswer (r q : Answer) (b c : List ℕ) : Type 0 where
   pub answer : r ≡ q
-  pub bytes : (n : ℕ) → r ≡ Length n → (n ≤ pairSize limits) × (take (pairSize limits) b ≡ take (pairSize limits) c)
+  pub bytes : (n : ℕ) → r ≡ Length n → (n ≤ pairSize) × (take pairSize b ≡ take pairSize c)
 
 -- Demand 3, the next edit: it and a fresh move of the lists as it changes them answer the same.
 abbrev pub NextTheorem : Type 0
@@ -165,7 +165,7 @@ pub record OthersAsBefore (p s : Pair) (a : Asked) : Type 0 where
 abbrev pub OthersTheorem : Type 0
 OthersTheorem =
     (buffer w left w′ : List ℕ) (used n : ℕ) (a : Asked) → Edits buffer used a w (Length n) left w′
-    → (p : Pair) × (s : Pair) × (pairIn limits (take used buffer) ≡ accepted p) × (record { buffer = left; used = n } ≡ held limits buffer s) × OthersAsBefore p s a
+    → (p : Pair) × (s : Pair) × (pairIn limits (take used buffer) ≡ accepted p) × (record { buffer = left; used = n } ≡ held buffer s) × OthersAsBefore p s a
 
 -- All of it.
 pub record PlannerTheorem : Type 0 where

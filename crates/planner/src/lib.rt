@@ -16,7 +16,7 @@ use sheet::OrderParts;
 use sheet::PAIR_BYTES;
 ghost use Prim.Native.Nat.{_≤_};
 ghost use lib.ListN.{length};
-ghost use Rattle.policy.specs.Fields.{limits, workSize};
+ghost use Rattle.policy.specs.Fields.{workSize};
 ghost use Rattle.sheet.specs.Pairs.{pairSize};
 ghost use Rattle.draft.specs.Steps.{draftSize};
 ghost use Rattle.planner.specs.Calls.{Moves};
@@ -41,7 +41,7 @@ fn finish_with(
     draft: &mut [u8],
     work: &mut [u8],
 ) -> Answer
-    requires { ⌜ Finishing (now sheet) stands (now list) gate own around (now work) × AllAnew around × (draftSize limits ≤ length (now draft)) ⌝ }
+    requires { ⌜ Finishing (now sheet) stands (now list) gate own around (now work) × AllAnew around × (draftSize ≤ length (now draft)) ⌝ }
     ensures { λ r. ⌜ Finishes (now (sheet .entry)) stands (now (list .entry)) gate own around (now (work .entry)) r (now (sheet .exit)) (now (work .exit)) ⌝ }
 {
     let from = stands.third + COUNT_BYTES;
@@ -98,11 +98,11 @@ pub fn finish(
 
 // The order sheet read, and every group worked out anew. B is written with A, so that nothing stands in the sheet.
 fn plan(order: &[u8], sheet: &mut [u8], work: &mut [u8]) -> Answer
-    requires { ⌜ (pairSize limits ≤ length (now sheet)) × (workSize limits ≤ length (now work)) ⌝ }
+    requires { ⌜ (pairSize ≤ length (now sheet)) × (workSize ≤ length (now work)) ⌝ }
     ensures { λ r. ⌜ Planned (now (order .entry)) (now (sheet .entry)) (now (work .entry)) r (now (sheet .exit)) (now (work .exit)) ⌝ }
 {
     match sheet::read_order(order) {
-        OrderParts::Fault(f) => Answer::Refused(f),
+        OrderParts::Refused(f) => Answer::Refused(f),
         OrderParts::Parts {
             gate,
             own,

@@ -12,7 +12,7 @@ use Rattle.lists.proofs.Lists.{map-append, append-none, three-parts}
 use Rattle.policy.specs.Fields.{Limits}
 use Rattle.policy.specs.Ranges.{Region}
 use Rattle.policy.specs.Rules.{Rule, isAllow, sound, complete, denies, allowsIn, anyAllow}
-use Rattle.policy.specs.Refusals.{given, orElse, faults}
+use Rattle.policy.specs.Refusals.{given, orElse, rulesRefusal}
 use Rattle.policy.specs.Move.{Slot, kept, anew, startOf, slots, slotsOf, boxesOf, overSlot, anyOver, together, work, room, Order, moved, badCount}
 use Rattle.policy.proofs.Refused.{listRefusal, moveRefusal}
 use Rattle.policy.specs.Edit.{Kind, out, put, front, gone, back, changed, around, gateSlots, Edit, newOrder, newSlots, edited, changeRefusal}
@@ -72,10 +72,10 @@ unfolding anyOver
 over-append m [] y = refl
 over-append m (s ∷ x) y = rw (over-append m x y) (or-assoc (overSlot m s) (anyOver m x) (anyOver m y))
 
-pub faults-append : (x y : List Rule) → faults (x ++ y) ≡ orElse (faults x) (faults y)
-unfolding faults
-faults-append [] y = refl
-faults-append (r ∷ x) y = rw (faults-append x y) (sym (orElse-assoc (given (not (sound r)) 4) (faults x) (faults y)))
+pub rulesRefusal-append : (x y : List Rule) → rulesRefusal (x ++ y) ≡ orElse (rulesRefusal x) (rulesRefusal y)
+unfolding rulesRefusal
+rulesRefusal-append [] y = refl
+rulesRefusal-append (r ∷ x) y = rw (rulesRefusal-append x y) (sym (orElse-assoc (given (not (sound r)) 4) (rulesRefusal x) (rulesRefusal y)))
 
 pub together-append : (x y : List (List Region)) → together (x ++ y) ≡ together x ++ together y
 unfolding together
@@ -151,22 +151,22 @@ around-over f q x m n y gs h =
     go true e k = refl
     go false e k = kept-over q (drop (denies x + denies m) gs) ∙ sym (ap (λ (l : List Region). anyOver q (slots f l y)) (sym (same-before x m n e)) ∙ k)
 
--- the faults of a changed list with no fault before are those of what was put in
-pub changed-faults : (x m n y : List Rule) → faults (x ++ (m ++ y)) ≡ 0 → faults (x ++ (n ++ y)) ≡ faults n
-changed-faults x m n y h =
-    let f = orElse-zero (faults x) (faults (m ++ y)) (sym (faults-append x (m ++ y)) ∙ h) in
-    let g = orElse-zero (faults m) (faults y) (sym (faults-append m y) ∙ f .1) in
-    rw (faults-append x (n ++ y), faults-append n y, orElse-skip (faults x) (orElse (faults n) (faults y)) (f .0)) (orElse-none (faults n) (faults y) (g .1))
+-- a changed list whose rules were sound before is refused as what was put in
+pub changed-rulesRefusal : (x m n y : List Rule) → rulesRefusal (x ++ (m ++ y)) ≡ 0 → rulesRefusal (x ++ (n ++ y)) ≡ rulesRefusal n
+changed-rulesRefusal x m n y h =
+    let f = orElse-zero (rulesRefusal x) (rulesRefusal (m ++ y)) (sym (rulesRefusal-append x (m ++ y)) ∙ h) in
+    let g = orElse-zero (rulesRefusal m) (rulesRefusal y) (sym (rulesRefusal-append m y) ∙ f .1) in
+    rw (rulesRefusal-append x (n ++ y), rulesRefusal-append n y, orElse-skip (rulesRefusal x) (orElse (rulesRefusal n) (rulesRefusal y)) (f .0)) (orElse-none (rulesRefusal n) (rulesRefusal y) (g .1))
 
--- what a list that is read without fault is
-pub list-accepted : (most : ℕ) (l : List Rule) → listRefusal most l ≡ 0 → (faults l ≡ 0) × (complete l ≡ true)
+-- what a list that is read without a refusal is
+pub list-accepted : (most : ℕ) (l : List Rule) → listRefusal most l ≡ 0 → (rulesRefusal l ≡ 0) × (complete l ≡ true)
 unfolding listRefusal
 list-accepted most l h =
-    let f = orElse-zero (given (badCount most (length l)) 2) (orElse (faults l) (given (not (complete l)) 5)) h in
-    let g = orElse-zero (faults l) (given (not (complete l)) 5) (f .1) in
+    let f = orElse-zero (given (badCount most (length l)) 2) (orElse (rulesRefusal l) (given (not (complete l)) 5)) h in
+    let g = orElse-zero (rulesRefusal l) (given (not (complete l)) 5) (f .1) in
     (g .0, not-false (complete l) (given-zero (not (complete l)) 4 (g .1)))
 
--- what an accepted move says: nothing at fault in A, in B, and room
+-- what an accepted move says: no refusal in A, none in B, and room
 pub record Accepted (lim : Limits) (o : Order) : Type 0 where
   pub gate : listRefusal (lim .gate) (o .gate) ≡ 0
   pub own : listRefusal (lim .own) (o .own) ≡ 0
@@ -222,22 +222,22 @@ module _ (lim : Limits) where
       let y : List Rule = back i k (o .gate) in
       let new : Order = newOrder (edit true i k) o in
       let light : anyOver (lim .pieces) (slots (startOf o) [] (x ++ (m ++ y))) ≡ false = rw e (room-light o (slotsOf o) (acc .room)) in
-      let clean : faults (x ++ (m ++ y)) ≡ 0 = rw e (list-accepted (lim .gate) (o .gate) (acc .gate) .0) in
+      let clean : rulesRefusal (x ++ (m ++ y)) ≡ 0 = rw e (list-accepted (lim .gate) (o .gate) (acc .gate) .0) in
       let ov = around-over (startOf o) (lim .pieces) x m (put k) y (boxes (startOf o) [] (o .gate)) light in
       let bx : map boxesOf (gateSlots (edit true i k) (moved o)) ≡ boxes (startOf o) [] (changed i k (o .gate)) = rw e at (around-boxes (startOf o) x m (put k) y) in
-      rw (room-same new (newSlots (edit true i k) (moved o)) (slotsOf new) ov bx, changed-faults x m (put k) y clean)
-      (chain-gate (given (badCount (lim .gate) (length (changed i k (o .gate)))) 2) (faults (put k)) (given (not (complete (changed i k (o .gate)))) 5)
+      rw (room-same new (newSlots (edit true i k) (moved o)) (slotsOf new) ov bx, changed-rulesRefusal x m (put k) y clean)
+      (chain-gate (given (badCount (lim .gate) (length (changed i k (o .gate)))) 2) (rulesRefusal (put k)) (given (not (complete (changed i k (o .gate)))) 5)
       (listRefusal (lim .own) (o .own)) (room lim new (slotsOf new)) (acc .own))
   refusal false i k o acc =
       let e = three-parts i (out k) (o .own) in
       let new : Order = newOrder (edit false i k) o in
-      let clean : faults (front i (o .own) ++ (gone i k (o .own) ++ back i k (o .own))) ≡ 0 = rw e (list-accepted (lim .own) (o .own) (acc .own) .0) in
+      let clean : rulesRefusal (front i (o .own) ++ (gone i k (o .own) ++ back i k (o .own))) ≡ 0 = rw e (list-accepted (lim .own) (o .own) (acc .own) .0) in
       let gs : List (List Region) = boxes (startOf o) [] (o .gate) in
       rw (
         room-same new (map kept gs) (slotsOf new) (kept-over (lim .pieces) gs ∙ sym (room-light o (slotsOf o) (acc .room))) (kept-boxes gs),
-        changed-faults (front i (o .own)) (gone i k (o .own)) (put k) (back i k (o .own)) clean,
+        changed-rulesRefusal (front i (o .own)) (gone i k (o .own)) (put k) (back i k (o .own)) clean,
       )
-      (chain-own (given (badCount (lim .own) (length (changed i k (o .own)))) 2) (faults (put k)) (given (not (complete (changed i k (o .own)))) 5)
+      (chain-own (given (badCount (lim .own) (length (changed i k (o .own)))) 2) (rulesRefusal (put k)) (given (not (complete (changed i k (o .own)))) 5)
       (listRefusal (lim .gate) (o .gate)) (room lim new (slotsOf new)) (acc .gate))
 
   pub change-refuses-as-fresh : (e : Edit) (o : Order) → moveRefusal lim o ≡ 0 → changeRefusal lim e (moved o) ≡ moveRefusal lim (newOrder e o)

@@ -14,7 +14,7 @@ use Rattle.policy.specs.Fields.{highest}
 use Rattle.policy.specs.Ranges.{range, Region, Packet, within, inside, Whole, properRange, proper, fullRange, isFull, fullOver}
 use Rattle.policy.specs.Rules.{Rule, isAllow, sound, Found, found, nothing, firstFrom, first, saysAllow, saysDrop, allows, drops, inLimits, forwards, complete}
 use Rattle.policy.specs.Cut.{group, anyHas}
-use Rattle.policy.specs.Refusals.{given, faults}
+use Rattle.policy.specs.Refusals.{given, rulesRefusal}
 use Rattle.policy.specs.Move.{
   anew,
   startOf,
@@ -31,15 +31,15 @@ use Rattle.policy.proofs.Cuts.{one, hits, within-fact, within-true}
 use Rattle.policy.proofs.Groups.{any-once, group-each-hits}
 use Rattle.policy.proofs.Numbers.{orElse-zero, given-zero}
 
--- what a rule with no fault is
+-- what a sound rule is
 pub rule-proper : (r : Rule) → sound r ≡ true → proper highest (r .region) ≡ true
 unfolding sound
 rule-proper r h = and-true (proper highest (r .region)) (leb (r .action) 1) h .0
 
-pub faults-cons : (r : Rule) (l : List Rule) → faults (r ∷ l) ≡ 0 → (sound r ≡ true) × (faults l ≡ 0)
-unfolding faults
-faults-cons r l h =
-    let f = orElse-zero (given (not (sound r)) 4) (faults l) h in
+pub rulesRefusal-cons : (r : Rule) (l : List Rule) → rulesRefusal (r ∷ l) ≡ 0 → (sound r ≡ true) × (rulesRefusal l ≡ 0)
+unfolding rulesRefusal
+rulesRefusal-cons r l h =
+    let f = orElse-zero (given (not (sound r)) 4) (rulesRefusal l) h in
     (not-false (sound r) (given-zero (not (sound r)) 3 (f .0)), f .1)
 
 pub proper-whole : (hs : List ℕ) (b : Region) → proper hs b ≡ true → Whole b
@@ -79,11 +79,11 @@ full-eq (x ∷ hs) (r ∷ b) h =
     λ t. record { low = e t; high = j t } ∷ i t
 
 -- No sound rule has a packet that is outside the limits.
-pub above-from : (p : Packet) (l : List Rule) (n : ℕ) → faults l ≡ 0 → inLimits p ≡ false → firstFrom n p l ≡ nothing
-unfolding faults firstFrom
+pub above-from : (p : Packet) (l : List Rule) (n : ℕ) → rulesRefusal l ≡ 0 → inLimits p ≡ false → firstFrom n p l ≡ nothing
+unfolding rulesRefusal firstFrom
 above-from p [] n h k = refl
 above-from p (r ∷ l) n h k =
-    let f = faults-cons r l h in
+    let f = rulesRefusal-cons r l h in
     go (inside p (r .region)) refl (above-from p l (suc n) (f .1) k) (rule-proper r (f .0))
   where
     go : (t : Bool) → inside p (r .region) ≡ t → firstFrom (suc n) p l ≡ nothing → proper highest (r .region) ≡ true
@@ -96,9 +96,9 @@ not-not : (t : Bool) → t ≡ not (not t)
 not-not true = refl
 not-not false = refl
 
-pub complete-allows : (p : Packet) (l : List Rule) (n : ℕ) → faults l ≡ 0 → complete l ≡ true
+pub complete-allows : (p : Packet) (l : List Rule) (n : ℕ) → rulesRefusal l ≡ 0 → complete l ≡ true
     → saysAllow (firstFrom n p l) ≡ (inLimits p && not (saysDrop (firstFrom n p l)))
-unfolding faults firstFrom complete
+unfolding rulesRefusal firstFrom complete
 complete-allows p [] n h k = absurd (false≢true k)
 complete-allows p (r ∷ []) n h k =
     let e = ap (inside p) (full-eq highest (r .region) k) in
@@ -108,7 +108,7 @@ complete-allows p (r ∷ []) n h k =
     go true = not-not (eqb (r .action) 1)
     go false = refl
 complete-allows p (r ∷ (s ∷ l)) n h k =
-    let f = faults-cons r (s ∷ l) h in
+    let f = rulesRefusal-cons r (s ∷ l) h in
     go (inside p (r .region)) refl (firstFrom (suc n) p (s ∷ l)) (complete-allows p (s ∷ l) (suc n) (f .1) k) (rule-proper r (f .0))
   where
     go : (t : Bool) → inside p (r .region) ≡ t → (x : Found) → saysAllow x ≡ (inLimits p && not (saysDrop x)) → proper highest (r .region) ≡ true
@@ -117,7 +117,7 @@ complete-allows p (r ∷ (s ∷ l)) n h k =
     go false e x ih q = ih
 
 -- A packet that no rule of a complete list has is outside the limits.
-pub nothing-above : (p : Packet) (l : List Rule) (n : ℕ) → faults l ≡ 0 → complete l ≡ true → firstFrom n p l ≡ nothing → inLimits p ≡ false
+pub nothing-above : (p : Packet) (l : List Rule) (n : ℕ) → rulesRefusal l ≡ 0 → complete l ≡ true → firstFrom n p l ≡ nothing → inLimits p ≡ false
 nothing-above p l n h k e = go (inLimits p) (ap saysAllow (sym e) ∙ (complete-allows p l n h k ∙ ap (λ (x : Found). inLimits p && not (saysDrop x)) e))
   where
     go : (t : Bool) → false ≡ (t && true) → t ≡ false
@@ -146,9 +146,9 @@ group-has f to p allows d st w =
     less false false = refl
 
 -- the boxes of the slots have a packet exactly if no earlier allow has it, the start takes it and the rest of the list drops it
-pub slots-cover : (f : Region → List Region) (to : Bool) (p : Packet) (before : List Region) (l : List Rule) (n : ℕ) → Starts p f to → Each Whole before → faults l ≡ 0
+pub slots-cover : (f : Region → List Region) (to : Bool) (p : Packet) (before : List Region) (l : List Rule) (n : ℕ) → Starts p f to → Each Whole before → rulesRefusal l ≡ 0
     → anyHas p (together (map boxesOf (slots f before l))) ≡ (not (anyHas p before) && (to && saysDrop (firstFrom n p l)))
-unfolding slots together boxesOf firstFrom faults anyHas Each
+unfolding slots together boxesOf firstFrom rulesRefusal anyHas Each
 slots-cover f to p before [] n st w h = go (anyHas p before) to
   where
     go : (t u : Bool) → false ≡ (not t && (u && false))
@@ -156,7 +156,7 @@ slots-cover f to p before [] n st w h = go (anyHas p before) to
     go false true = refl
     go false false = refl
 slots-cover f to p before (r ∷ l) n st w h =
-    let z = faults-cons r l h in
+    let z = rulesRefusal-cons r l h in
     let v = proper-whole highest (r .region) (rule-proper r (z .0)) in
     go (isAllow r) refl (inside p (r .region)) refl
     (slots-cover f to p (before ++ (r .region ∷ [])) l (suc n) st (each-append Whole before (r .region ∷ []) w (v, tt)) (z .1))
@@ -202,7 +202,7 @@ alone-hits p d = go (inside p d)
     go false = refl
 
 -- The boxes cover exactly what the old gate dropped.
-pub boxes-cover-what-the-gate-dropped : (o : Order) (p : Packet) → faults (o .gate) ≡ 0 → anyHas p (together (moved o .groups)) ≡ drops p (o .gate)
+pub boxes-cover-what-the-gate-dropped : (o : Order) (p : Packet) → rulesRefusal (o .gate) ≡ 0 → anyHas p (together (moved o .groups)) ≡ drops p (o .gate)
 unfolding anyHas Each
 boxes-cover-what-the-gate-dropped o p h = slots-cover (startOf o) true p [] (o .gate) 0 (alone-hits p) tt h
 
@@ -229,7 +229,7 @@ denials-allow p (b ∷ bs) l n = go (inside p b) (denials-allow p bs l (suc n))
     go false h = h
 
 -- The moved pair forwards each packet exactly if the old pair did.
-pub moved-pair-forwards : (o : Order) (p : Packet) → faults (o .gate) ≡ 0 → complete (o .gate) ≡ true
+pub moved-pair-forwards : (o : Order) (p : Packet) → rulesRefusal (o .gate) ≡ 0 → complete (o .gate) ≡ true
     → forwards p (gateList (moved o)) (cellList (moved o)) ≡ forwards p (o .gate) (o .own)
 unfolding firstFrom
 moved-pair-forwards o p h k =
@@ -241,7 +241,7 @@ moved-pair-forwards o p h k =
     go false d a b e = rw e
 
 -- The old gate with the new cell list forwards what the old pair did, so the cell list can be loaded first.
-pub cell-first : (o : Order) (p : Packet) → faults (o .gate) ≡ 0 → forwards p (o .gate) (cellList (moved o)) ≡ forwards p (o .gate) (o .own)
+pub cell-first : (o : Order) (p : Packet) → rulesRefusal (o .gate) ≡ 0 → forwards p (o .gate) (cellList (moved o)) ≡ forwards p (o .gate) (o .own)
 cell-first o p h =
     rw (denials-allow p (together (moved o .groups)) (o .own) 0, boxes-cover-what-the-gate-dropped o p h) (go (first p (o .gate)) (allows p (o .own)))
   where

@@ -15,12 +15,12 @@ use Rattle.policy.specs.Fields.{highest}
 use Rattle.policy.specs.Ranges.{Region, Packet, inside, Whole}
 use Rattle.policy.specs.Rules.{Rule, rule, isAllow, found, nothing, firstFrom, first, drops, denies}
 use Rattle.policy.specs.Cut.{group, anyHas}
-use Rattle.policy.specs.Refusals.{faults}
+use Rattle.policy.specs.Refusals.{rulesRefusal}
 use Rattle.policy.specs.Move.{anew, startOf, slots, boxesOf, together, Order, moved, denials, cellList}
 use Rattle.policy.specs.Demands.{groupAt}
 use Rattle.policy.specs.Origins.{gateRule, placeOf, HasOrigin}
 use Rattle.policy.specs.Steps.{boxNumber}
-use Rattle.policy.proofs.Moves.{Starts, rule-proper, proper-whole, faults-cons, any-append, group-has, alone-hits, boxes-cover-what-the-gate-dropped}
+use Rattle.policy.proofs.Moves.{Starts, rule-proper, proper-whole, rulesRefusal-cons, any-append, group-has, alone-hits, boxes-cover-what-the-gate-dropped}
 
 -- a box that has the packet has a number
 pub number-there : (p : Packet) (bs : List Region) → anyHas p bs ≡ true → boxNumber p bs < length bs
@@ -131,13 +131,13 @@ abbrev InGroup : Packet → List (List Region) → ℕ → Bool → Type 0
 InGroup p gs k to = (anyHas p (together (take k gs)) ≡ false) × (anyHas p (getD gs k []) ≡ to)
 
 decided-in : (f : Region → List Region) (to : Bool) (p : Packet) (before : List Region) (l : List Rule) (d : Rule)
-    → Starts p f to → Each Whole before → anyHas p before ≡ false → faults l ≡ 0
+    → Starts p f to → Each Whole before → anyHas p before ≡ false → rulesRefusal l ≡ 0
     → boxNumber p (regions l) < length l → isAllow (getD l (boxNumber p (regions l)) d) ≡ false
     → InGroup p (map boxesOf (slots f before l)) (denies (take (boxNumber p (regions l)) l)) to
 unfolding boxNumber slots boxesOf denies together anyHas Each
 decided-in f to p before [] d st w none clean h deny = absurd (omega arith)
 decided-in f to p before (r ∷ l) d st w none clean h deny =
-    let z = faults-cons r l clean in
+    let z = rulesRefusal-cons r l clean in
     let v = proper-whole highest (r .region) (rule-proper r (z .0)) in
     go (inside p (r .region)) refl (isAllow r) refl (boxNumber p (regions l)) h deny
     (λ e. decided-in f to p (before ++ (r .region ∷ [])) l d st (each-append Whole before (r .region ∷ []) w (v, tt)) (any-append p before (r .region ∷ []) ∙ rw (none, e)) (z .1))
@@ -161,7 +161,7 @@ decided-in f to p before (r ∷ l) d st w none clean h deny =
         let g = denied (omega arith) k in
         rw e (any-append p (group (f (r .region)) before) (together (take (denies (take m l)) (map boxesOf (slots f before l)))) ∙ rw q (g .0), g .1)
 
-module _ (o : Order) (p : Packet) (clean : faults (o .gate) ≡ 0) where
+module _ (o : Order) (p : Packet) (clean : rulesRefusal (o .gate) ≡ 0) where
   -- The gate did not drop the packet: the own rules decide.
   pub own-decides : drops p (o .gate) ≡ false → first p (cellList (moved o)) ≡ firstFrom (length (together (moved o .groups))) p (o .own)
   own-decides e =

@@ -13,11 +13,11 @@ use Rattle.policy.specs.Fields.{highest}
 use Rattle.policy.specs.Ranges.{Region, Whole, Within, properRange, proper}
 use Rattle.policy.specs.Rules.{Rule, isAllow, Proper}
 use Rattle.policy.specs.Cut.{group}
-use Rattle.policy.specs.Refusals.{faults}
+use Rattle.policy.specs.Refusals.{rulesRefusal}
 use Rattle.policy.specs.Move.{anew, slots, boxesOf, Order, moved}
 use Rattle.policy.specs.Demands.{Piece}
 use Rattle.policy.proofs.Groups.{group-inside}
-use Rattle.policy.proofs.Moves.{faults-cons, rule-proper, proper-whole}
+use Rattle.policy.proofs.Moves.{rulesRefusal-cons, rule-proper, proper-whole}
 
 -- a piece of a proper box is proper
 pub proper-piece : (hs : List ℕ) (d b : Region) → proper hs d ≡ true → Piece d b → proper hs b ≡ true
@@ -38,11 +38,11 @@ group-proper : (d : Region) (allows : List Region) → Proper d → Each Whole a
 group-proper d allows h w =
     each-imp (Piece d) Proper (group (d ∷ []) allows) (λ b p. proper-piece highest d b h p) (group-inside d allows (proper-whole highest d h) w)
 
-slots-proper : (allows : List Region) (l : List Rule) → Each Whole allows → faults l ≡ 0 → Each (Each Proper) (map boxesOf (slots (λ (d : Region). d ∷ []) allows l))
+slots-proper : (allows : List Region) (l : List Rule) → Each Whole allows → rulesRefusal l ≡ 0 → Each (Each Proper) (map boxesOf (slots (λ (d : Region). d ∷ []) allows l))
 unfolding Each slots boxesOf
 slots-proper allows [] w h = tt
 slots-proper allows (r ∷ l) w h =
-    let z = faults-cons r l h in
+    let z = rulesRefusal-cons r l h in
     let p = rule-proper r (z .0) in
     let v = proper-whole highest (r .region) p in
     go (isAllow r) (slots-proper (allows ++ (r .region ∷ [])) l (each-append Whole allows (r .region ∷ []) w (v, tt)) (z .1)) (slots-proper allows l w (z .1)) (group-proper (r .region) allows p w)
@@ -53,6 +53,6 @@ slots-proper allows (r ∷ l) w h =
     go true a b g = a
     go false a b g = (g, b)
 
-pub moved-proper : (o : Order) → faults (o .gate) ≡ 0 → Each (Each Proper) (moved o .groups)
+pub moved-proper : (o : Order) → rulesRefusal (o .gate) ≡ 0 → Each (Each Proper) (moved o .groups)
 unfolding Each
 moved-proper o h = slots-proper [] (o .gate) tt h

@@ -9,13 +9,13 @@ use Rattle.lists.specs.Lists.{Each}
 use Rattle.policy.specs.Ranges.{Region, Packet, inside, Whole, Within}
 use Rattle.policy.specs.Rules.{Rule, rule, isAllow, nothing, first, inLimits, denies, anyAllow}
 use Rattle.policy.specs.Cut.{cut, group, anyHas}
-use Rattle.policy.specs.Refusals.{faults}
+use Rattle.policy.specs.Refusals.{rulesRefusal}
 use Rattle.policy.specs.Move.{Pair}
 use Rattle.policy.specs.Edit.{Kind, out, put, gone}
 
 -- 01, The five fields: in a list without a bad rule, a packet outside the limits of some field finds no rule that has it.
 abbrev pub AboveTheorem : Type 0
-AboveTheorem = (p : Packet) (l : List Rule) → faults l ≡ 0 → inLimits p ≡ false → first p l ≡ nothing
+AboveTheorem = (p : Packet) (l : List Rule) → rulesRefusal l ≡ 0 → inLimits p ≡ false → first p l ≡ nothing
 
 -- A piece of d is never empty and lies in d.
 abbrev pub Piece : Region → Region → Type 0

@@ -8,7 +8,7 @@ use lib.ListN.{length, take, drop}
 use Rattle.policy.specs.Fields.{Limits}
 use Rattle.policy.specs.Ranges.{Region}
 use Rattle.policy.specs.Rules.{Rule, complete, denies, allowsIn, anyAllow}
-use Rattle.policy.specs.Refusals.{given, orElse, faults}
+use Rattle.policy.specs.Refusals.{given, orElse, rulesRefusal}
 use Rattle.policy.specs.Move.{startOf, Slot, kept, slots, groupsOf, room, Order, Pair, badCount}
 
 pub data Kind : Type 0 where
@@ -93,7 +93,7 @@ placeFound e o = hasPlace (e .place) (e .kind) (target e o)
 unfoldable pub changeRefusal : Limits → Edit → Pair → ℕ
 changeRefusal lim e s =
     orElse (given (badCount (cond (e .inGate) (lim .gate) (lim .own)) (length (newList e (s .order)))) 2)
-    (orElse (faults (put (e .kind)))
+    (orElse (rulesRefusal (put (e .kind)))
     (orElse (given (not (complete (newList e (s .order)))) 5)
     (room lim (newOrder e (s .order)) (newSlots e s))))
 

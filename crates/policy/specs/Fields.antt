@@ -64,5 +64,5 @@ abbrev pub limits : Limits
 limits = record { gate = 64; own = 256; pieces = 1024; total = 1024 }
 
 -- 01, Calls: the work buffer holds two lists of as many boxes as one deny rule may have pieces.
-abbrev pub workSize : Limits → ℕ
-workSize lim = 2 * lim .pieces * boxSize
+abbrev pub workSize : ℕ
+workSize = 2 * limits .pieces * boxSize

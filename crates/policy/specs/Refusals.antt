@@ -65,9 +65,9 @@ unless zero a = accepted a
 unless (suc n) a = refused (suc n)
 
 -- Number 4 over the rules of a list, in their order.
-unfoldable pub faults : List Rule → ℕ
-faults [] = 0
-faults (r ∷ l) = orElse (given (not (sound r)) 4) (faults l)
+unfoldable pub rulesRefusal : List Rule → ℕ
+rulesRefusal [] = 0
+rulesRefusal (r ∷ l) = orElse (given (not (sound r)) 4) (rulesRefusal l)
 
 -- The value answered, or the refusal's number.
 abbrev pub said : Answer → Outcome ℕ

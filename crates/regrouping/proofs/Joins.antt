@@ -64,19 +64,19 @@ module _ {w back : List ℕ} {n : ℕ} (h : JoinReady w n back) where
       let p₃ : w₃ ≡ ((number ++ boxes) ++ back) ++ drop (countSize + boxSize * n + length back) w₂ =
       e₃ .1 ∙ sets-parts w₂ (countSize + boxSize * n) back (omega arith) ∙ rw t₂ (sym (append-assoc (number ++ boxes) back (drop (countSize + boxSize * n + length back) w₂))) in
       let lj : length ((number ++ boxes) ++ back) ≡ r = length-append (number ++ boxes) back ∙ omega (arith, e₃ .0) in
-      let i : countSize + boxSize * n + (workSize limits - (countSize + boxSize * n)) ≡ workSize limits = omega arith in
-      let b₂ : drop (workSize limits) w₂ ≡ drop (workSize limits) w =
-      ap (λ (k : ℕ). drop k w₂) (sym i) ∙ sym (drop-drop (workSize limits - (countSize + boxSize * n)) (countSize + boxSize * n) w₂)
-      ∙ ap (drop (workSize limits - (countSize + boxSize * n))) (ap (drop (countSize + boxSize * n)) p₂ ∙ drop-at (number ++ boxes) rest (countSize + boxSize * n) lg)
-      ∙ drop-drop (workSize limits - (countSize + boxSize * n)) (countSize + boxSize * n) w ∙ ap (λ (k : ℕ). drop k w) i in
+      let i : countSize + boxSize * n + (workSize - (countSize + boxSize * n)) ≡ workSize = omega arith in
+      let b₂ : drop workSize w₂ ≡ drop workSize w =
+      ap (λ (k : ℕ). drop k w₂) (sym i) ∙ sym (drop-drop (workSize - (countSize + boxSize * n)) (countSize + boxSize * n) w₂)
+      ∙ ap (drop (workSize - (countSize + boxSize * n))) (ap (drop (countSize + boxSize * n)) p₂ ∙ drop-at (number ++ boxes) rest (countSize + boxSize * n) lg)
+      ∙ drop-drop (workSize - (countSize + boxSize * n)) (countSize + boxSize * n) w ∙ ap (λ (k : ℕ). drop k w) i in
       record {
         end = omega (arith, e₃ .0);
         bytes = ap (take r) p₃ ∙ take-at ((number ++ boxes) ++ back) (drop (countSize + boxSize * n + length back) w₂) r lj;
-        beyond = ap (drop (workSize limits)) (e₃ .1) ∙ drop-sets (workSize limits) w₂ (countSize + boxSize * n) back (omega arith) ∙ b₂;
+        beyond = ap (drop workSize) (e₃ .1) ∙ drop-sets workSize w₂ (countSize + boxSize * n) back (omega arith) ∙ b₂;
       }
 
 module _ {rules : List ℕ} {place to boxes : ℕ} {back w : List ℕ} (ready : Gathering rules place to boxes back w) where
-  back-fits : length back ≤ workSize limits
+  back-fits : length back ≤ workSize
   back-fits = omega (arith, ready .size, ready .few)
 
   -- no group: the kept ones alone
@@ -88,7 +88,7 @@ module _ {rules : List ℕ} {place to boxes : ℕ} {back w : List ℕ} (ready : 
       record {
         joined = rw d (refl, omega arith, λ t. (rw (e .1, length-sets w 0 back) (omega (arith, e .0, back-fits, ready .workRoom)), ap (take end) p ∙ take-at back (drop (0 + length back) w) end (omega (arith, e .0))));
         few = omega (arith, ready .few);
-        beyond = ap (drop (workSize limits)) (e .1) ∙ drop-sets (workSize limits) w 0 back (omega (arith, back-fits));
+        beyond = ap (drop workSize) (e .1) ∙ drop-sets workSize w 0 back (omega (arith, back-fits));
       }
 
   module _ (d : NoneDenies rules place to false) where

@@ -27,14 +27,14 @@ NoneDenies rules place to false = (place < to) × (isAllow (ruleIn (drop (record
 -- A group's n boxes at the front of the work buffer, and room for its count and for the bytes behind it.
 pub record JoinReady (work : List ℕ) (n : ℕ) (back : List ℕ) : Type 0 where
   pub few : n < 65536
-  pub fits : groupSize n + length back ≤ workSize limits
-  pub room : workSize limits ≤ length work
+  pub fits : groupSize n + length back ≤ workSize
+  pub room : workSize ≤ length work
 
 -- The group's bytes and those behind it at the front, and nothing changed behind the work buffer's front.
 pub record JoinedIn (work : List ℕ) (n : ℕ) (back : List ℕ) (r : ℕ) (work′ : List ℕ) : Type 0 where
   pub end : r ≡ groupSize n + length back
   pub bytes : take r work′ ≡ (numberBytes countSize n ++ take (boxSize * n) work) ++ back
-  pub beyond : drop (workSize limits) work′ ≡ drop (workSize limits) work
+  pub beyond : drop workSize work′ ≡ drop workSize work
 
 -- What joining the group of the rule at a place and the bytes of kept groups asks for: sound records, and room for all of them,
 -- since the bytes are those of no more than `boxes` boxes.
@@ -45,7 +45,7 @@ pub record Gathering (rules : List ℕ) (place to boxes : ℕ) (back work : List
   pub one : to ≤ place + 1
   pub few : boxes ≤ limits .total
   pub size : length back ≤ countSize * limits .gate + boxSize * boxes
-  pub workRoom : workSize limits ≤ length work
+  pub workRoom : workSize ≤ length work
 
 -- The boxes counted, also those past what fits, stay few enough to be added to.
 abbrev pub FewBoxes : Drafted → Type 0
@@ -56,7 +56,7 @@ FewBoxes TooManyPieces = Unit {0}
 pub record Gathered (rules : List ℕ) (place to boxes : ℕ) (back work : List ℕ) (r : Drafted) (work′ : List ℕ) : Type 0 where
   pub joined : Told limits (stretch place to rules) boxes (Begins work′ (groupsBytes (groupsOf (stretch place to rules)) ++ back)) r
   pub few : FewBoxes r
-  pub beyond : drop (workSize limits) work′ ≡ drop (workSize limits) work
+  pub beyond : drop workSize work′ ≡ drop workSize work
 
 -- What the last step asks for: what that of a move asks for; no group kept behind the place where more than one rule is to be worked
 -- out; and that section C is the old groups, of so many boxes, and nothing else.

@@ -42,7 +42,7 @@ changed-list {l} {n} {most} {place} {change} {new} {out} {out′} {end} f count 
     let b : take end out′ ≡ listBytes (changed place (kindOf change new) l) = d .bytes ∙ list-spliced new l n place change (f .rules) count (d .found) (d .whole) whole in
     record { done = d; fits = g; bytes = b; reads = ap (listIn most) b ∙ list-back most _ g }
 
--- What is known once it is read well: it is without fault, and has one rule more, as many or one less.
+-- What is known once it is read well: it is readable, and has one rule more, as many or one less.
 pub record Renewed (l l′ : List Rule) (n most place : ℕ) (change : Change) (t : List ℕ) (n′ : ℕ) : Type 0 where
   pub clean : listRefusal most l′ ≡ 0
   pub rules : rulesOf n′ t ≡ l′

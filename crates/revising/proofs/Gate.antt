@@ -95,7 +95,7 @@ module _ {s : List ℕ} {n m middle third boxes : ℕ} (a : PairAccepted s n m m
     pub gate-refused : {list list′ : List ℕ} (f : Refusal) → ListChanged (changedBytes (listBytes (o .gate)) n place change new) list (Refused f) list′ → editedOf limits s q ≡ refused (numberOf f)
     gate-refused f x = revised.revised-refused a 0 place change new refl n (gates .gateCount) (listBytes (o .gate)) f x
 
-    module _ {list list′ : List ℕ} {end : ℕ} (x : ListChanged (changedBytes (listBytes (o .gate)) n place change new) list (Length end) list′) (roomy : gateSize limits + recordSize ≤ length list) where
+    module _ {list list′ : List ℕ} {end : ℕ} (x : ListChanged (changedBytes (listBytes (o .gate)) n place change new) list (Length end) list′) (roomy : gateSize + recordSize ≤ length list) where
       c : ChangedList (o .gate) n (limits .gate) place change new list list′ end
       c = let g = a .place .lists .gateLimit in changed-list (gates .gate) (gates .gateCount) (omega arith) whole (omega arith) x
 
@@ -105,8 +105,8 @@ module _ {s : List ℕ} {n m middle third boxes : ℕ} (a : PairAccepted s n m m
       pub gate-end : end ≤ length list
       gate-end = c .done .inside
 
-      pub gate-faulty : (f : Refusal) → listIn (limits .gate) t ≡ refused (numberOf f) → editedOf limits s q ≡ refused (numberOf f)
-      gate-faulty f e = revised.revised-faulty a 0 place change new refl n (gates .gateCount) (c .done .found) (c .done .whole) (a .good .gate) l′ (numberOf f) (sym (c .reads) ∙ e)
+      pub gate-refuses : (f : Refusal) → listIn (limits .gate) t ≡ refused (numberOf f) → editedOf limits s q ≡ refused (numberOf f)
+      gate-refuses f e = revised.revised-refuses a 0 place change new refl n (gates .gateCount) (c .done .found) (c .done .whole) (a .good .gate) l′ (numberOf f) (sym (c .reads) ∙ e)
 
       module _ {n′ next : ℕ} (b : ListAccepted (limits .gate) t n′ next) where
         r : Renewed (o .gate) l′ n (limits .gate) place change t n′
@@ -175,7 +175,7 @@ module _ {s : List ℕ} {n m middle third boxes : ℕ} (a : PairAccepted s n m m
         groups-are = part-is (third + countSize) used sheet (gate-there .5) inside ∙ ap (drop (third + countSize)) (sym is)
 
         module _ (v′ : Around) (same : v′ ≡ v) where
-          pub gate-settling : {w : List ℕ} → pairSize limits ≤ length sheet → workSize limits ≤ length w → Settling sheet stands t n′ m v′ boxes w
+          pub gate-settling : {w : List ℕ} → pairSize ≤ length sheet → workSize ≤ length w → Settling sheet stands t n′ m v′ boxes w
           unfolding aroundOf
           gate-settling {w} h j =
               let g = a .place .lists .gateEnd in

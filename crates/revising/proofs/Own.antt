@@ -56,7 +56,7 @@ module _ {s : List ℕ} {n m middle third boxes : ℕ} (a : PairAccepted s n m m
   own-size = ap length (own-bytes a sheet used is inside) ∙ own-long a sheet used is inside
 
   -- what the sheet's size is, with as many boxes and other own rules
-  sheet-long : (middle + listSize m ≡ third) × (third ≤ used) × (used - third ≡ countSize + (countSize * denies (rulesOf n s) + boxSize * boxes)) × (middle ≤ gateSize limits) × (denies (rulesOf n s) ≤ limits .gate)
+  sheet-long : (middle + listSize m ≡ third) × (third ≤ used) × (used - third ≡ countSize + (countSize * denies (rulesOf n s) + boxSize * boxes)) × (middle ≤ gateSize) × (denies (rulesOf n s) ≤ limits .gate)
   sheet-long = (
     omega (arith, a .place .lists .ownEnd),
     omega (arith, a .place .lists .inside, sheet-used a sheet used is inside),
@@ -76,24 +76,24 @@ module _ {s : List ℕ} {n m middle third boxes : ℕ} (a : PairAccepted s n m m
     p′ = record { order = newOrder (editOf q) o; groups = p .groups }
 
     pub own-refused : {w w′ : List ℕ} (f : Refusal) → ListChanged (changedBytes (listBytes (o .own)) m place change new) w (Refused f) w′
-        → (editedOf limits s q ≡ refused (numberOf f)) × (drop (workSize limits) w′ ≡ drop (workSize limits) w)
+        → (editedOf limits s q ≡ refused (numberOf f)) × (drop workSize w′ ≡ drop workSize w)
     own-refused f x = (
       revised.revised-refused a 1 place change new refl m (known .ownCount) (listBytes (o .own)) f x,
-      ap (drop (workSize limits)) (change-refused {A = ℕ} (accepted 0) (listBytes (o .own)) m place change new f x .1),
+      ap (drop workSize) (change-refused {A = ℕ} (accepted 0) (listBytes (o .own)) m place change new f x .1),
     )
 
-    module _ {w w′ : List ℕ} {end : ℕ} (x : ListChanged (changedBytes (listBytes (o .own)) m place change new) w (Length end) w′) (roomy : workSize limits ≤ length w) where
+    module _ {w w′ : List ℕ} {end : ℕ} (x : ListChanged (changedBytes (listBytes (o .own)) m place change new) w (Length end) w′) (roomy : workSize ≤ length w) where
       c : ChangedList (o .own) m (limits .own) place change new w w′ end
       c = let g = a .place .lists .ownLimit in changed-list (known .own) (known .ownCount) (omega arith) whole (omega arith) x
 
       pub own-end : end ≤ length w
       own-end = c .done .inside
 
-      pub own-beyond : drop (workSize limits) w′ ≡ drop (workSize limits) w
-      own-beyond = ap (drop (workSize limits)) (c .done .result) ∙ drop-sets (workSize limits) w 0 (newBytes (listBytes (o .own)) m place change new) (omega (arith, c .done .long, c .done .short, own-long a sheet used is inside, a .place .lists .ownLimit))
+      pub own-beyond : drop workSize w′ ≡ drop workSize w
+      own-beyond = ap (drop workSize) (c .done .result) ∙ drop-sets workSize w 0 (newBytes (listBytes (o .own)) m place change new) (omega (arith, c .done .long, c .done .short, own-long a sheet used is inside, a .place .lists .ownLimit))
 
-      pub own-faulty : (f : Refusal) → listIn (limits .own) (take end w′) ≡ refused (numberOf f) → editedOf limits s q ≡ refused (numberOf f)
-      own-faulty f e = revised.revised-faulty a 1 place change new refl m (known .ownCount) (c .done .found) (c .done .whole) (a .good .own) l′ (numberOf f) (sym (c .reads) ∙ e)
+      pub own-refuses : (f : Refusal) → listIn (limits .own) (take end w′) ≡ refused (numberOf f) → editedOf limits s q ≡ refused (numberOf f)
+      own-refuses f e = revised.revised-refuses a 1 place change new refl m (known .ownCount) (c .done .found) (c .done .whole) (a .good .own) l′ (numberOf f) (sym (c .reads) ∙ e)
 
       module _ {m′ next : ℕ} (b : ListAccepted (limits .own) (take end w′) m′ next) where
         r : Renewed (o .own) l′ m (limits .own) place change (take end w′) m′
@@ -112,7 +112,7 @@ module _ {s : List ℕ} {n m middle third boxes : ℕ} (a : PairAccepted s n m m
         pub own-seven : limits .total < boxes + m′ → editedOf limits s q ≡ refused 7
         own-seven h = edited-is ∙ rw (lt-ltb (limits .total) (boxes + m′) h)
 
-        module _ (within : boxes + m′ ≤ limits .total) (roomIs : pairSize limits ≤ length sheet) where
+        module _ (within : boxes + m′ ≤ limits .total) (roomIs : pairSize ≤ length sheet) where
           accepted-is : editedOf limits s q ≡ accepted p′
           accepted-is = edited-is ∙ rw (le-ltb (limits .total) (boxes + m′) within)
 
@@ -137,8 +137,8 @@ module _ {s : List ℕ} {n m middle third boxes : ℕ} (a : PairAccepted s n m m
               let e : take (used - third) (drop third sheet) ≡ drop third s = part-is third used sheet (l .1) inside ∙ ap (drop third) (sym is) in
               rw (l .0, gate-bytes a sheet used is inside, c .bytes, e, ← (a .sectionBytes)) (sym (append-assoc (listBytes (o .gate)) (listBytes l′) _))
 
-          pub own-done : {sheet′ : List ℕ} {k : ℕ} → (k ≡ length (withList sheet middle m used (take end w′))) × (sheet′ ≡ filled (pairSize limits) sheet (withList sheet middle m used (take end w′)))
-              → Writes pairBytes (pairSize limits) (editedOf limits s q) sheet w (Length k) sheet′ w′
+          pub own-done : {sheet′ : List ℕ} {k : ℕ} → (k ≡ length (withList sheet middle m used (take end w′))) × (sheet′ ≡ filled pairSize sheet (withList sheet middle m used (take end w′)))
+              → Writes pairBytes pairSize (editedOf limits s q) sheet w (Length k) sheet′ w′
           unfolding lengthOf written
           own-done e = record {
             answer = rw (accepted-is, ← pair-is, e .0);

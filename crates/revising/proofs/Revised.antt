@@ -3,7 +3,7 @@
 use mathlib.Core.Path.{_≡_, _∙_}
 use mathlib.Core.List.{List, _++_}
 use mathlib.Core.Bool.{true, cond, not}
-use Prim.Native.Nat.{ℕ, zero, suc, _+_, _-_, _≤_}
+use Prim.Native.Nat.{ℕ, zero, suc, _+_, _≤_}
 use native.Mathlib.Omega.{arith}
 use lib.Dec.{leb}
 use lib.ListN.{length, drop}
@@ -11,19 +11,19 @@ use borrow.Author.Tests.{le-leb}
 use Rattle.lists.proofs.Lists.{three-parts}
 use Rattle.policy.specs.Fields.{countSize, limits}
 use Rattle.policy.specs.Rules.{Rule, complete}
-use Rattle.policy.specs.Refusals.{refused, test, unless, given, orElse, faults, numberOf}
+use Rattle.policy.specs.Refusals.{refused, test, unless, given, orElse, rulesRefusal, numberOf}
 use Rattle.policy.specs.Move.{room, Order, Pair, badCount}
 use Rattle.policy.proofs.Refused.{listRefusal}
 use Rattle.policy.specs.Edit.{Kind, out, put, front, gone, back, Edit, target, newList, newOrder, newSlots, edited, changeRefusal}
 use Rattle.policy.specs.declared.Answer.the-variants.{Refused}
 use Rattle.policy.specs.declared.Refusal.{Refusal}
 use Rattle.policy.proofs.Numbers.{orElse-assoc}
-use Rattle.policy.proofs.Edits.{list-accepted, changed-faults}
+use Rattle.policy.proofs.Edits.{list-accepted, changed-rulesRefusal}
 use Rattle.wire.proofs.Records.{rulesIn-length}
 use Rattle.sheet.specs.Pairs.{pairIn}
 use Rattle.sheet.specs.Steps.{rulesOf, listsOf, pairOf}
-use Rattle.sheet.proofs.Outcomes.{faultless}
-use Rattle.sheet.proofs.Orders.{ListFits, faultless-fits}
+use Rattle.sheet.proofs.Outcomes.{readable}
+use Rattle.sheet.proofs.Orders.{ListFits, readable-fits}
 use Rattle.sheet.proofs.Accepted.{PairAccepted}
 use Rattle.planner.specs.Steps.{slotted}
 use Rattle.planner.specs.Edits.{Asked, asked, editOf, wholeRecord, changeOf, editedOf}
@@ -38,7 +38,7 @@ unless-refused (suc k) r n y z e = cc
 abbrev most : Edit → ℕ
 most e = cond (e .inGate) (limits .gate) (limits .own)
 
--- the rules that stay are without fault, so that what is asked of the new list is what reading it asks
+-- the rules that stay are sound, so that what is asked of the new list is what reading it asks
 change-chain : (e : Edit) (p : Pair) → listRefusal (most e) (target e (p .order)) ≡ 0
     → changeRefusal limits e p ≡ orElse (listRefusal (most e) (newList e (p .order))) (room limits (newOrder e (p .order)) (newSlots e p))
 unfolding changeRefusal listRefusal
@@ -46,14 +46,14 @@ change-chain e p clean =
     let l : List Rule = target e (p .order) in
     let k : Kind = e .kind in
     let i : ℕ = e .place in
-    let none : faults (front i l ++ (gone i k l ++ back i k l)) ≡ 0 = rw (three-parts i (out k) l) (list-accepted (most e) l clean .0) in
+    let none : rulesRefusal (front i l ++ (gone i k l ++ back i k l)) ≡ 0 = rw (three-parts i (out k) l) (list-accepted (most e) l clean .0) in
     let c : ℕ = given (badCount (most e) (length (newList e (p .order)))) 2 in
     let d : ℕ = given (not (complete (newList e (p .order)))) 5 in
-    rw (changed-faults (front i l) (gone i k l) (put k) (back i k l) none, orElse-assoc c (orElse (faults (put k)) d) (room limits (newOrder e (p .order)) (newSlots e p)), orElse-assoc (faults (put k)) d (room limits (newOrder e (p .order)) (newSlots e p)))
+    rw (changed-rulesRefusal (front i l) (gone i k l) (put k) (back i k l) none, orElse-assoc c (orElse (rulesRefusal (put k)) d) (room limits (newOrder e (p .order)) (newSlots e p)), orElse-assoc (rulesRefusal (put k)) d (room limits (newOrder e (p .order)) (newSlots e p)))
 
-pub pair-faulty : (s : List ℕ) (q : Asked) (k : ℕ) → pairIn limits s ≡ refused k → editedOf limits s q ≡ refused k
+pub pair-refuses : (s : List ℕ) (q : Asked) (k : ℕ) → pairIn limits s ≡ refused k → editedOf limits s q ≡ refused k
 unfolding editedOf
-pair-faulty s q k e = rw e
+pair-refuses s q k e = rw e
 
 -- What is known of the two lists once a sheet is read well.
 pub record ListsKnown (o : Order) (n m : ℕ) : Type 0 where
@@ -69,12 +69,12 @@ lists-known {s} {n} {m} {middle} a =
     let g : length (rulesOf n s) ≡ n = rulesIn-length n (drop countSize s) in
     let w : length (rulesOf m (drop middle s)) ≡ m = rulesIn-length m (drop countSize (drop middle s)) in
     record {
-      gate = faultless-fits (limits .gate) (rulesOf n s) (omega arith) (a .good .gate);
-      own = faultless-fits (limits .own) (rulesOf m (drop middle s)) (omega arith) (a .good .own);
+      gate = readable-fits (limits .gate) (rulesOf n s) (omega arith) (a .good .gate);
+      own = readable-fits (limits .own) (rulesOf m (drop middle s)) (omega arith) (a .good .own);
       gateCount = g;
       ownCount = w;
-      gateSome = omega (arith, faultless (limits .gate) (rulesOf n s) (a .good .gate) .few);
-      ownSome = omega (arith, faultless (limits .own) (rulesOf m (drop middle s)) (a .good .own) .few);
+      gateSome = omega (arith, readable (limits .gate) (rulesOf n s) (a .good .gate) .few);
+      ownSome = omega (arith, readable (limits .own) (rulesOf m (drop middle s)) (a .good .own) .few);
     }
 
 module _ {s : List ℕ} {n m middle third boxes : ℕ} (a : PairAccepted s n m middle third boxes) (list place : ℕ) (change : Change) (new : List ℕ) (there : leb list 1 ≡ true) where
@@ -97,9 +97,9 @@ module _ {s : List ℕ} {n m middle third boxes : ℕ} (a : PairAccepted s n m m
       passed : editedOf limits s q ≡ unless (orElse (listRefusal (most (editOf q)) (newList (editOf q) (p .order))) (room limits (newOrder (editOf q) (p .order)) (newSlots (editOf q) p))) (edited (editOf q) p)
       passed = shape ∙ rw (le-leb (place + takenBy change) count found, whole, change-chain (editOf q) p clean)
 
-      -- reading the new list: refused with a number, or without fault
-      pub revised-faulty : {A : Type 0} (x : A) (k : ℕ) → unless (listRefusal (most (editOf q)) (newList (editOf q) (p .order))) x ≡ refused k → editedOf limits s q ≡ refused k
-      revised-faulty x k e = passed ∙ unless-refused (listRefusal (most (editOf q)) (newList (editOf q) (p .order))) _ k x (edited (editOf q) p) e
+      -- reading the new list: refused with a number, or readable
+      pub revised-refuses : {A : Type 0} (x : A) (k : ℕ) → unless (listRefusal (most (editOf q)) (newList (editOf q) (p .order))) x ≡ refused k → editedOf limits s q ≡ refused k
+      revised-refuses x k e = passed ∙ unless-refused (listRefusal (most (editOf q)) (newList (editOf q) (p .order))) _ k x (edited (editOf q) p) e
 
       pub revised-slotted : listRefusal (most (editOf q)) (newList (editOf q) (p .order)) ≡ 0 → editedOf limits s q ≡ slotted (newOrder (editOf q) (p .order)) (newSlots (editOf q) p)
       unfolding slotted

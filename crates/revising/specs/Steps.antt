@@ -10,4 +10,4 @@ use Rattle.planner.specs.Steps.{Writes}
 
 -- The pair sheet of the stated length read and changed.
 abbrev pub Revised : List ℕ → ℕ → Asked → List ℕ → Answer → List ℕ → List ℕ → Type 0
-Revised buffer used a w r buffer′ w′ = Writes pairBytes (pairSize limits) (editedOf limits (take used buffer) a) buffer w r buffer′ w′
+Revised buffer used a w r buffer′ w′ = Writes pairBytes pairSize (editedOf limits (take used buffer) a) buffer w r buffer′ w′

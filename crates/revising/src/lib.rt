@@ -17,7 +17,7 @@ use sheet::PairParts;
 use sheet::Section;
 ghost use Prim.Native.Nat.{_+_, _≤_};
 ghost use lib.ListN.{length};
-ghost use Rattle.policy.specs.Fields.{recordSize, limits, workSize};
+ghost use Rattle.policy.specs.Fields.{recordSize, workSize};
 ghost use Rattle.sheet.specs.Orders.{gateSize};
 ghost use Rattle.sheet.specs.Pairs.{pairSize};
 ghost use Rattle.planner.specs.Edits.{asked};
@@ -36,11 +36,11 @@ fn revise_gate_with(
     list: &mut [u8],
     work: &mut [u8],
 ) -> Answer
-    requires { ⌜ (pairSize limits ≤ length (now sheet)) × (used ≤ length (now sheet)) × (gateSize limits + recordSize ≤ length (now list)) × (workSize limits ≤ length (now work)) ⌝ }
+    requires { ⌜ (pairSize ≤ length (now sheet)) × (used ≤ length (now sheet)) × (gateSize + recordSize ≤ length (now list)) × (workSize ≤ length (now work)) ⌝ }
     ensures { λ r. ⌜ Revised (now (sheet .entry)) used (asked 0 place change (now (new .entry))) (now (work .entry)) r (now (sheet .exit)) (now (work .exit)) ⌝ }
 {
     match sheet::read_pair(&sheet[..used]) {
-        PairParts::Fault(f) => Answer::Refused(f),
+        PairParts::Refused(f) => Answer::Refused(f),
         PairParts::Parts {
             gate,
             own,
@@ -50,7 +50,7 @@ fn revise_gate_with(
         } => match change_list(&sheet[..middle], gate, place, change, new, list) {
             Answer::Refused(f) => Answer::Refused(f),
             Answer::Length(end) => match sheet::read_list(&list[..end], GATE_MOST) {
-                Section::Fault(f) => Answer::Refused(f),
+                Section::Refused(f) => Answer::Refused(f),
                 Section::Rules {
                     count: renewed,
                     next: _,
@@ -86,7 +86,7 @@ pub fn revise_gate(
     new: &[u8],
     work: &mut [u8],
 ) -> Answer
-    requires { ⌜ (pairSize limits ≤ length (now sheet)) × (used ≤ length (now sheet)) × (workSize limits ≤ length (now work)) ⌝ }
+    requires { ⌜ (pairSize ≤ length (now sheet)) × (used ≤ length (now sheet)) × (workSize ≤ length (now work)) ⌝ }
     ensures { λ r. ⌜ Revised (now (sheet .entry)) used (asked 0 place change (now (new .entry))) (now (work .entry)) r (now (sheet .exit)) (now (work .exit)) ⌝ }
 {
     let mut list = [0u8; LIST_BYTES];
@@ -103,11 +103,11 @@ pub fn revise_own(
     new: &[u8],
     work: &mut [u8],
 ) -> Answer
-    requires { ⌜ (pairSize limits ≤ length (now sheet)) × (used ≤ length (now sheet)) × (workSize limits ≤ length (now work)) ⌝ }
+    requires { ⌜ (pairSize ≤ length (now sheet)) × (used ≤ length (now sheet)) × (workSize ≤ length (now work)) ⌝ }
     ensures { λ r. ⌜ Revised (now (sheet .entry)) used (asked 1 place change (now (new .entry))) (now (work .entry)) r (now (sheet .exit)) (now (work .exit)) ⌝ }
 {
     match sheet::read_pair(&sheet[..used]) {
-        PairParts::Fault(f) => Answer::Refused(f),
+        PairParts::Refused(f) => Answer::Refused(f),
         PairParts::Parts {
             gate: _,
             own,
@@ -117,7 +117,7 @@ pub fn revise_own(
         } => match change_list(&sheet[middle..third], own, place, change, new, work) {
             Answer::Refused(f) => Answer::Refused(f),
             Answer::Length(end) => match sheet::read_list(&work[..end], OWN_MOST) {
-                Section::Fault(f) => Answer::Refused(f),
+                Section::Refused(f) => Answer::Refused(f),
                 Section::Rules {
                     count: renewed,
                     next: _,

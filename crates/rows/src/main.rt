@@ -143,7 +143,7 @@ fn print_boxes(sheet: &[u8], n: usize)
     requires { ⌜ n ≤ length (now sheet) ⌝ }
 {
     match sheet::read_pair(&sheet[..n]) {
-        PairParts::Fault(_) => print_text(b"no pair sheet\n"),
+        PairParts::Refused(_) => print_text(b"no pair sheet\n"),
         PairParts::Parts {
             gate: _,
             own: _,

@@ -314,7 +314,7 @@ fn growth(seed: u32) {
 }
 
 // Short lists and many bad records; the last rule is often taken out, replaced or followed by another.
-fn faults(seed: u32) {
+fn rulesRefusal(seed: u32) {
     play(Shape {
         seed,
         edits: 1500,
@@ -340,6 +340,6 @@ fn main() {
     five_fields(12);
     growth(21);
     growth(22);
-    faults(31);
-    faults(32);
+    rulesRefusal(31);
+    rulesRefusal(32);
 }

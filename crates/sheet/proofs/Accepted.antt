@@ -25,18 +25,18 @@ use Rattle.sheet.specs.declared.OrderParts.the-variants as O
 use Rattle.sheet.specs.declared.PairParts.{PairParts}
 use Rattle.sheet.specs.declared.PairParts.the-variants as P
 use Rattle.wire.proofs.Lists.{listBytes-length}
-use Rattle.sheet.proofs.Orders.{faultless-fits, order-faultless, order-written-back, list-faultless, list-written-back}
+use Rattle.sheet.proofs.Orders.{readable-fits, order-readable, order-written-back, list-readable, list-written-back}
 use Rattle.sheet.proofs.Pairs.{PairGood, pair-good, pair-written-back}
 use Rattle.wire.specs.Lists.{listSize, listBytes}
 
 -- A list by itself.
-pub list-refused : {most : ℕ} {s : List ℕ} {r : Section} → ListRead most s r → (f : Refusal) → r ≡ S.Fault f → listIn most s ≡ refused (numberOf f)
+pub list-refused : {most : ℕ} {s : List ℕ} {r : Section} → ListRead most s r → (f : Refusal) → r ≡ S.Refused f → listIn most s ≡ refused (numberOf f)
 unfolding listHeard
 list-refused {s = s} x f e = sym (x .says) ∙ ap (listHeard s) e
 
 pub record ListAccepted (most : ℕ) (s : List ℕ) (n next : ℕ) : Type 0 where
   pub reads : listIn most s ≡ accepted (rulesOf n s)
-  pub faultless : listRefusal most (rulesOf n s) ≡ 0
+  pub readable : listRefusal most (rulesOf n s) ≡ 0
   pub bytes : listBytes (rulesOf n s) ≡ s
   pub place : ListPlace most s n next
 
@@ -47,7 +47,7 @@ list-accepted {most} {s} x b n next e =
     let p : listIn most s ≡ accepted (rulesOf n s) = sym (x .says) ∙ ap (listHeard s) e in
     record {
       reads = p;
-      faultless = list-faultless most s (rulesOf n s) p;
+      readable = list-readable most s (rulesOf n s) p;
       bytes = list-written-back most s (rulesOf n s) p b;
       place = rw e at (x .place);
     }
@@ -55,17 +55,17 @@ list-accepted {most} {s} x b n next e =
 -- Where a section's bytes end.
 section-end : (most n : ℕ) (s : List ℕ) → most < 65536 → listRefusal most (rulesOf n s) ≡ 0 → length (listBytes (rulesOf n s)) ≡ listSize n
 section-end most n s h e =
-    listBytes-length (rulesOf n s) (faultless-fits most (rulesOf n s) h e .rules) ∙ ap (λ (k : ℕ). listSize k) (rulesIn-length n (drop countSize s))
+    listBytes-length (rulesOf n s) (readable-fits most (rulesOf n s) h e .rules) ∙ ap (λ (k : ℕ). listSize k) (rulesIn-length n (drop countSize s))
 
 -- An order sheet.
-pub order-refused : {s : List ℕ} {r : OrderParts} → OrderRead s r → (f : Refusal) → r ≡ O.Fault f → orderIn limits s ≡ refused (numberOf f)
+pub order-refused : {s : List ℕ} {r : OrderParts} → OrderRead s r → (f : Refusal) → r ≡ O.Refused f → orderIn limits s ≡ refused (numberOf f)
 unfolding orderHeard
 order-refused {s} x f e = sym (x .says) ∙ ap (orderHeard s) e
 
 pub record OrderAccepted (s : List ℕ) (n m middle : ℕ) : Type 0 where
   pub reads : orderIn limits s ≡ accepted (listsOf n m middle s)
-  pub gateFaultless : listRefusal (limits .gate) (rulesOf n s) ≡ 0
-  pub ownFaultless : listRefusal (limits .own) (rulesOf m (drop middle s)) ≡ 0
+  pub gateReadable : listRefusal (limits .gate) (rulesOf n s) ≡ 0
+  pub ownReadable : listRefusal (limits .own) (rulesOf m (drop middle s)) ≡ 0
   pub gateBytes : listBytes (rulesOf n s) ≡ take middle s
   pub ownBytes : listBytes (rulesOf m (drop middle s)) ≡ drop middle s
   pub place : ListsPlace s n m middle (length s)
@@ -77,20 +77,20 @@ order-accepted {s} x b n m middle e =
     let o : Order = listsOf n m middle s in
     let p : ListsPlace s n m middle (length s) = rw e at (x .place) in
     let q : orderIn limits s ≡ accepted o = sym (x .says) ∙ ap (orderHeard s) e in
-    let f = order-faultless limits s o q in
+    let f = order-readable limits s o q in
     let k : listBytes (o .gate) ++ listBytes (o .own) ≡ s = order-written-back limits s o q b in
     let l : length (listBytes (o .gate)) ≡ middle = section-end (limits .gate) n s (omega arith) (f .0) ∙ sym (p .gateEnd) in
     record {
       reads = q;
-      gateFaultless = f .0;
-      ownFaultless = f .1;
+      gateReadable = f .0;
+      ownReadable = f .1;
       gateBytes = sym (ap (take middle) (sym k) ∙ take-at (listBytes (o .gate)) (listBytes (o .own)) middle l);
       ownBytes = sym (ap (drop middle) (sym k) ∙ drop-at (listBytes (o .gate)) (listBytes (o .own)) middle l);
       place = p;
     }
 
 -- A pair sheet.
-pub pair-refused : {s : List ℕ} {r : PairParts} → PairRead s r → (f : Refusal) → r ≡ P.Fault f → pairIn limits s ≡ refused (numberOf f)
+pub pair-refused : {s : List ℕ} {r : PairParts} → PairRead s r → (f : Refusal) → r ≡ P.Refused f → pairIn limits s ≡ refused (numberOf f)
 unfolding pairHeard
 pair-refused {s} x f e = sym (x .says) ∙ ap (pairHeard s) e
 

@@ -22,7 +22,7 @@ use Rattle.sheet.specs.Sections.{Reading, reading}
 use Rattle.sheet.specs.Pairs.{groupSize, groupBoxes, behind, groupsIn}
 use Rattle.sheet.specs.Steps.{withTotal, groupsFrom, groupsHeard, GroupsPlace, GroupsPlaced, GroupsRead}
 use Rattle.sheet.specs.declared.Groups.{Groups}
-use Rattle.sheet.specs.declared.Groups.the-variants.{Boxes, Fault}
+use Rattle.sheet.specs.declared.Groups.the-variants.{Boxes, Refused}
 use Rattle.sheet.proofs.Parts.{part-from}
 use Rattle.wire.specs.Lists.{countIn}
 
@@ -31,26 +31,26 @@ unfolding together groupsFrom
 one-group s = rw append-nil (boxesIn-length (countIn s) (drop countSize s))
 
 module _ (most n total : ℕ) (s : List ℕ) where
-  groups-faulty : (f : Refusal) → groupsIn (withTotal most) n total s ≡ refused (numberOf f) → GroupsRead most n total s (Fault f)
+  groups-refuses : (f : Refusal) → groupsIn (withTotal most) n total s ≡ refused (numberOf f) → GroupsRead most n total s (Refused f)
   unfolding groupsHeard GroupsPlaced
-  groups-faulty f e = record { says = sym e; place = tt }
+  groups-refuses f e = record { says = sym e; place = tt }
 
 -- One group.
 module _ (most total : ℕ) (s : List ℕ) where
-  pub no-count : length s < countSize → GroupsRead most 1 total s (Fault LengthWrong)
+  pub no-count : length s < countSize → GroupsRead most 1 total s (Refused LengthWrong)
   unfolding groupsIn
-  no-count h = groups-faulty most 1 total s LengthWrong (rw (lt-leb countSize (length s) h) refl)
+  no-count h = groups-refuses most 1 total s LengthWrong (rw (lt-leb countSize (length s) h) refl)
 
   module _ (w : total ≤ most) (a : countSize ≤ length s) (n : ℕ) (e : n ≡ countIn s) where
-    pub too-many : most - total < n → GroupsRead most 1 total s (Fault TooManyBoxes)
+    pub too-many : most - total < n → GroupsRead most 1 total s (Refused TooManyBoxes)
     unfolding groupsIn
-    too-many h = groups-faulty most 1 total s TooManyBoxes (rw (le-leb countSize (length s) a, ← e, lt-leb (total + n) most (omega arith)) refl)
+    too-many h = groups-refuses most 1 total s TooManyBoxes (rw (le-leb countSize (length s) a, ← e, lt-leb (total + n) most (omega arith)) refl)
 
     module _ (b : n ≤ most - total) where
-      pub no-boxes : length s < groupSize n → GroupsRead most 1 total s (Fault LengthWrong)
+      pub no-boxes : length s < groupSize n → GroupsRead most 1 total s (Refused LengthWrong)
       unfolding groupsIn
       no-boxes h =
-          groups-faulty most 1 total s LengthWrong
+          groups-refuses most 1 total s LengthWrong
           (rw (le-leb countSize (length s) a, ← e, le-leb (total + n) most (omega arith), lt-leb (groupSize n) (length s) h) refl)
 
       module _ (g : groupSize n ≤ length s) (v : Bool) (k : v ≡ every (proper highest) (boxesIn n (drop countSize s))) where
@@ -60,8 +60,8 @@ module _ (most total : ℕ) (s : List ℕ) where
         unfolding groupsIn
         there = rw (le-leb countSize (length s) a, ← e, le-leb (total + n) most (omega arith), le-leb (groupSize n) (length s) g, k) refl
 
-        pub bad-box : not v ≡ true → GroupsRead most 1 total s (Fault RuleBad)
-        bad-box h = groups-faulty most 1 total s RuleBad (there ∙ rw (not-true v h) refl)
+        pub bad-box : not v ≡ true → GroupsRead most 1 total s (Refused RuleBad)
+        bad-box h = groups-refuses most 1 total s RuleBad (there ∙ rw (not-true v h) refl)
 
         pub group-read : not v ≡ false → GroupsRead most 1 total s (Boxes n (groupSize n))
         unfolding groupsHeard groupsFrom GroupsPlaced
@@ -71,11 +71,11 @@ module _ (most total : ℕ) (s : List ℕ) where
         }
 
 -- The answer, by its cases.
-pub groups-fault :
-    {most n total : ℕ} {s : List ℕ} {r : Groups} → GroupsRead most n total s r → (f : Refusal) → r ≡ Fault f
+pub groups-refusal :
+    {most n total : ℕ} {s : List ℕ} {r : Groups} → GroupsRead most n total s r → (f : Refusal) → r ≡ Refused f
     → groupsIn (withTotal most) n total s ≡ refused (numberOf f)
 unfolding groupsHeard
-groups-fault {n = n} {s = s} x f e = sym (x .says) ∙ ap (groupsHeard n s) e
+groups-refusal {n = n} {s = s} x f e = sym (x .says) ∙ ap (groupsHeard n s) e
 
 pub groups-boxes :
     {most n total : ℕ} {s : List ℕ} {r : Groups} → GroupsRead most n total s r → (count next : ℕ) → r ≡ Boxes count next
@@ -158,10 +158,10 @@ module _ {most n own i total at : ℕ} {s : List ℕ} (g : GroupsLeft (withTotal
     again : n - i ≡ suc (n - (i + 1))
     again = omega arith
 
-    pub groups-stop : (f : Refusal) → r ≡ Fault f → GroupsRead most n own s (Fault f)
+    pub groups-stop : (f : Refusal) → r ≡ Refused f → GroupsRead most n own s (Refused f)
     groups-stop f e =
-        groups-faulty most n own s f
-        (g .refuses (numberOf f) (rw again (group-refused (withTotal most) (n - (i + 1)) total (drop at s) (numberOf f) (groups-fault (part x) f e))))
+        groups-refuses most n own s f
+        (g .refuses (numberOf f) (rw again (group-refused (withTotal most) (n - (i + 1)) total (drop at s) (numberOf f) (groups-refusal (part x) f e))))
 
     module _ (count next : ℕ) (e : r ≡ Boxes count next) where
       turn : groupsIn (withTotal most) (n - i) total (drop at s) ≡ rest (withTotal most) (n - (i + 1)) total (drop at s)

@@ -19,11 +19,11 @@ use Rattle.sheet.specs.declared.Lists.{Lists}
 use Rattle.sheet.specs.declared.Lists.the-variants as L
 use Rattle.sheet.specs.declared.OrderParts.the-variants as O
 use Rattle.sheet.proofs.Parts.{part-from}
-use Rattle.sheet.proofs.SectionReader.{section-fault, section-rules, section-place}
+use Rattle.sheet.proofs.SectionReader.{section-refusal, section-rules, section-place}
 
-lists-faulty : {s : List ℕ} (f : Refusal) → listsIn limits s ≡ refused (numberOf f) → ListsRead s (L.Fault f)
+lists-refuses : {s : List ℕ} (f : Refusal) → listsIn limits s ≡ refused (numberOf f) → ListsRead s (L.Refused f)
 unfolding listsHeard ListsPlaced
-lists-faulty f e = record { says = sym e; place = tt }
+lists-refuses f e = record { says = sym e; place = tt }
 
 of-part : {most : ℕ} (s : List ℕ) (at : ℕ) {r : Section} → SectionRead most (take (length s - at) (drop at s)) r → SectionRead most (drop at s) r
 of-part s at x = rw (part-from s at) at x
@@ -43,14 +43,14 @@ module _ {p : ℕ} {s : List ℕ} {r : Section} (x : SectionRead p s r) (n middl
 
 -- From what the section reader ensures of A, and of the part behind it, and from the arms of the matches.
 module _ {s : List ℕ} {r : Section} (x : SectionRead (limits .gate) s r) where
-  pub gate-fault : (f : Refusal) → r ≡ S.Fault f → ListsRead s (L.Fault f)
+  pub gate-refusal : (f : Refusal) → r ≡ S.Refused f → ListsRead s (L.Refused f)
   unfolding listsIn
-  gate-fault f e = lists-faulty f (rw (section-fault x f e) refl)
+  gate-refusal f e = lists-refuses f (rw (section-refusal x f e) refl)
 
   module _ (n middle : ℕ) (e : r ≡ S.Rules n middle) {q : Section} (y : SectionRead (limits .own) (take (length s - middle) (drop middle s)) q) where
-    pub own-fault : (f : Refusal) → q ≡ S.Fault f → ListsRead s (L.Fault f)
+    pub own-refusal : (f : Refusal) → q ≡ S.Refused f → ListsRead s (L.Refused f)
     unfolding listsIn
-    own-fault f i = lists-faulty f (rw (section-rules x n middle e, section-fault (of-part s middle y) f i) refl)
+    own-refusal f i = lists-refuses f (rw (section-rules x n middle e, section-refusal (of-part s middle y) f i) refl)
 
     pub lists-read : (m next : ℕ) → q ≡ S.Rules m next → ListsRead s (L.Parts n m middle (middle + next))
     unfolding listsIn listsHeard ListsPlaced
@@ -69,9 +69,9 @@ module _ {s : List ℕ} {r : Section} (x : SectionRead (limits .gate) s r) where
         }
 
 -- The answer of the reader of A and B, by its cases.
-pub lists-fault : {s : List ℕ} {r : Lists} → ListsRead s r → (f : Refusal) → r ≡ L.Fault f → listsIn limits s ≡ refused (numberOf f)
+pub lists-refusal : {s : List ℕ} {r : Lists} → ListsRead s r → (f : Refusal) → r ≡ L.Refused f → listsIn limits s ≡ refused (numberOf f)
 unfolding listsHeard
-lists-fault {s} x f e = sym (x .says) ∙ ap (listsHeard s) e
+lists-refusal {s} x f e = sym (x .says) ∙ ap (listsHeard s) e
 
 pub lists-parts :
     {s : List ℕ} {r : Lists} → ListsRead s r → (n m middle third : ℕ) → r ≡ L.Parts n m middle third
@@ -86,20 +86,20 @@ lists-place x n m middle third e = rw e at (x .place)
 
 -- The order sheet.
 module _ {s : List ℕ} where
-  order-faulty : (f : Refusal) → orderIn limits s ≡ refused (numberOf f) → OrderRead s (O.Fault f)
+  order-refuses : (f : Refusal) → orderIn limits s ≡ refused (numberOf f) → OrderRead s (O.Refused f)
   unfolding orderHeard OrderPlaced
-  order-faulty f e = record { says = sym e; place = tt }
+  order-refuses f e = record { says = sym e; place = tt }
 
   module _ {r : Lists} (x : ListsRead s r) where
-    pub order-fault : (f : Refusal) → r ≡ L.Fault f → OrderRead s (O.Fault f)
+    pub order-refusal : (f : Refusal) → r ≡ L.Refused f → OrderRead s (O.Refused f)
     unfolding orderIn
-    order-fault f e = order-faulty f (rw (lists-fault x f e) refl)
+    order-refusal f e = order-refuses f (rw (lists-refusal x f e) refl)
 
     module _ (n m middle third : ℕ) (e : r ≡ L.Parts n m middle third) where
-      pub order-over : third < length s → OrderRead s (O.Fault LengthWrong)
+      pub order-over : third < length s → OrderRead s (O.Refused LengthWrong)
       unfolding orderIn
       order-over h =
-          order-faulty LengthWrong
+          order-refuses LengthWrong
           (rw (lists-parts x n m middle third e, ne-eqb (length (drop third s)) 0 (λ z. omega (arith, length-drop third s))) refl)
 
       pub order-read : length s ≤ third → OrderRead s (O.Parts n m middle)

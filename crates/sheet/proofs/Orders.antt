@@ -18,7 +18,7 @@ use Rattle.wire.proofs.Numbers.{bytes-drop}
 use Rattle.wire.proofs.Records.{RuleFits, sound-fits}
 use Rattle.sheet.specs.Sections.{Reading, reading, section}
 use Rattle.sheet.specs.Orders.{ended, order, orderIn, orderBytes, listIn, listsIn}
-use Rattle.sheet.proofs.Outcomes.{through, unless-then, unless-both, faultless}
+use Rattle.sheet.proofs.Outcomes.{through, unless-then, unless-both, readable}
 use Rattle.sheet.proofs.Sections.{section-good, section-written-back, section-back}
 use Rattle.lists.proofs.Lists.{each-every}
 use Rattle.policy.proofs.Answers.{test-accepted}
@@ -29,9 +29,9 @@ pub record ListFits (l : List Rule) : Type 0 where
   pub rules : Each RuleFits l
   pub count : length l < 65536
 
-pub faultless-fits : (most : ℕ) (l : List Rule) → most < 65536 → listRefusal most l ≡ 0 → ListFits l
-faultless-fits most l h e =
-    let g = faultless most l e in
+pub readable-fits : (most : ℕ) (l : List Rule) → most < 65536 → listRefusal most l ≡ 0 → ListFits l
+readable-fits most l h e =
+    let g = readable most l e in
     record { rules = each-every sound RuleFits sound-fits l (g .sounds); count = omega arith }
 
 nothing-left : {A : Type 0} (l : List A) → length l ≡ 0 → l ≡ []
@@ -62,8 +62,8 @@ lists-good lim s r e =
     }
 
 module _ (lim : Limits) (s : List ℕ) (r : Reading Order) (e : listsIn lim s ≡ accepted r) where
-  pub lists-faultless : (listRefusal (lim .gate) (r .value .gate) ≡ 0) × (listRefusal (lim .own) (r .value .own) ≡ 0)
-  lists-faultless =
+  pub lists-readable : (listRefusal (lim .gate) (r .value .gate) ≡ 0) × (listRefusal (lim .own) (r .value .own) ≡ 0)
+  lists-readable =
       let g = lists-good lim s r e in
       (section-good (lim .gate) s (reading (r .value .gate) (g .middle)) (g .gate) .list, section-good (lim .own) (g .middle) (reading (r .value .own) (r .rest)) (g .own) .list)
 
@@ -103,7 +103,7 @@ pub order-again :
     (lim : Limits) (o : Order) → lim .gate < 65536 → lim .own < 65536 → listRefusal (lim .gate) (o .gate) ≡ 0 → listRefusal (lim .own) (o .own) ≡ 0
     → orderIn lim (orderBytes o) ≡ accepted o
 order-again lim o g w e f =
-    order-back lim o (faultless-fits (lim .gate) (o .gate) g e) (faultless-fits (lim .own) (o .own) w f) ∙ rw (e, f) refl
+    order-back lim o (readable-fits (lim .gate) (o .gate) g e) (readable-fits (lim .own) (o .own) w f) ∙ rw (e, f) refl
 
 -- What was accepted: A and B of an order sheet, and nothing behind them.
 order-lists : (lim : Limits) (s : List ℕ) (o : Order) → orderIn lim s ≡ accepted o → listsIn lim s ≡ accepted (reading o [])
@@ -114,8 +114,8 @@ order-lists lim s o e =
     a .first ∙ (λ i. accepted (reading (b .0 i) (b .1 i)))
 
 module _ (lim : Limits) (s : List ℕ) (o : Order) (e : orderIn lim s ≡ accepted o) where
-  pub order-faultless : (listRefusal (lim .gate) (o .gate) ≡ 0) × (listRefusal (lim .own) (o .own) ≡ 0)
-  order-faultless = lists-faultless lim s (reading o []) (order-lists lim s o e)
+  pub order-readable : (listRefusal (lim .gate) (o .gate) ≡ 0) × (listRefusal (lim .own) (o .own) ≡ 0)
+  order-readable = lists-readable lim s (reading o []) (order-lists lim s o e)
 
   -- What reads well is what would be written.
   pub order-written-back : Each Byte s → orderBytes o ≡ s
@@ -129,7 +129,7 @@ list-back most l h =
     rw e (unless-then (listRefusal most l) (reading l []) _ l refl)
 
 pub list-again : (most : ℕ) (l : List Rule) → most < 65536 → listRefusal most l ≡ 0 → listIn most (listBytes l) ≡ accepted l
-list-again most l h e = list-back most l (faultless-fits most l h e) ∙ rw e refl
+list-again most l h e = list-back most l (readable-fits most l h e) ∙ rw e refl
 
 list-section : (most : ℕ) (s : List ℕ) (l : List Rule) → listIn most s ≡ accepted l → section most s ≡ accepted (reading l [])
 unfolding listIn
@@ -139,8 +139,8 @@ list-section most s l e =
     a .first ∙ (λ i. accepted (reading (b .0 i) (b .1 i)))
 
 module _ (most : ℕ) (s : List ℕ) (l : List Rule) (e : listIn most s ≡ accepted l) where
-  pub list-faultless : listRefusal most l ≡ 0
-  list-faultless = section-good most s (reading l []) (list-section most s l e) .list
+  pub list-readable : listRefusal most l ≡ 0
+  list-readable = section-good most s (reading l []) (list-section most s l e) .list
 
   pub list-written-back : Each Byte s → listBytes l ≡ s
   list-written-back b = sym (append-nil (listBytes l)) ∙ section-written-back most s (reading l []) b (list-section most s l e)

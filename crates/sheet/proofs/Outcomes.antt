@@ -10,7 +10,7 @@ use borrow.Author.Tests.{leb-true, leb-false, lt-ltb, le-ltb}
 use Rattle.lists.specs.Lists.{every}
 use Rattle.policy.proofs.Answers.{test-accepted}
 use Rattle.policy.specs.Rules.{Rule, sound, complete}
-use Rattle.policy.specs.Refusals.{Outcome, accepted, refused, test, andThen, given, orElse, unless, faults}
+use Rattle.policy.specs.Refusals.{Outcome, accepted, refused, test, andThen, given, orElse, unless, rulesRefusal}
 use Rattle.policy.proofs.Refused.{listRefusal}
 
 module _ {A : Type 0} where
@@ -43,12 +43,12 @@ pub unless-both : {A B : Type 0} (n m : ℕ) (a : A) (f : A → Outcome B) (b : 
 unless-both zero m a f b e = e
 unless-both (suc n) m a f b e = refl
 
-faults-every : (l : List Rule) → faults l ≡ given (not (every sound l)) 4
-unfolding faults every
-faults-every [] = refl
-faults-every (r ∷ l) = go (sound r) (faults-every l)
+rulesRefusal-every : (l : List Rule) → rulesRefusal l ≡ given (not (every sound l)) 4
+unfolding rulesRefusal every
+rulesRefusal-every [] = refl
+rulesRefusal-every (r ∷ l) = go (sound r) (rulesRefusal-every l)
   where
-    go : (t : Bool) → faults l ≡ given (not (every sound l)) 4 → orElse (given (not t) 4) (faults l) ≡ given (not (t && every sound l)) 4
+    go : (t : Bool) → rulesRefusal l ≡ given (not (every sound l)) 4 → orElse (given (not t) 4) (rulesRefusal l) ≡ given (not (t && every sound l)) 4
     go true h = h
     go false h = refl
 
@@ -67,17 +67,17 @@ pub list-outcome :
 unfolding listRefusal
 list-outcome most l x =
     in-order (leb 1 (length l)) (leb (length l) most) (every sound l) (complete l) x
-    ∙ sym (rw (faults-every l, ltb-not (length l) 1, ltb-not most (length l)) refl)
+    ∙ sym (rw (rulesRefusal-every l, ltb-not (length l) 1, ltb-not most (length l)) refl)
 
--- A list with no fault.
-pub record Faultless (most : ℕ) (l : List Rule) : Type 0 where
+-- A list that is read without a refusal.
+pub record Readable (most : ℕ) (l : List Rule) : Type 0 where
   pub few : 1 ≤ length l
   pub many : length l ≤ most
   pub sounds : every sound l ≡ true
   pub whole : complete l ≡ true
 
-pub faultless : (most : ℕ) (l : List Rule) → listRefusal most l ≡ 0 → Faultless most l
-faultless most l h =
+pub readable : (most : ℕ) (l : List Rule) → listRefusal most l ≡ 0 → Readable most l
+readable most l h =
     let e = list-outcome most l most ∙ ap (λ (n : ℕ). unless n most) h in
     let a = test-accepted (leb 1 (length l)) 2 _ e in
     let b = test-accepted (leb (length l) most) 2 _ (a .1) in

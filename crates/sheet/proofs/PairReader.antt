@@ -22,18 +22,18 @@ use Rattle.sheet.specs.declared.Groups.{Groups}
 use Rattle.sheet.specs.declared.Groups.the-variants as G
 use Rattle.sheet.specs.declared.PairParts.the-variants as P
 use Rattle.sheet.proofs.Parts.{part-from}
-use Rattle.sheet.proofs.OrderReader.{lists-fault, lists-parts, lists-place}
-use Rattle.sheet.proofs.GroupReader.{groups-fault, groups-boxes, groups-place}
+use Rattle.sheet.proofs.OrderReader.{lists-refusal, lists-parts, lists-place}
+use Rattle.sheet.proofs.GroupReader.{groups-refusal, groups-boxes, groups-place}
 use Rattle.wire.specs.Lists.{countIn, listSize}
 
-pair-faulty : {s : List ℕ} (f : Refusal) → pairIn limits s ≡ refused (numberOf f) → PairRead s (P.Fault f)
+pair-refuses : {s : List ℕ} (f : Refusal) → pairIn limits s ≡ refused (numberOf f) → PairRead s (P.Refused f)
 unfolding pairHeard PairPlaced
-pair-faulty f e = record { says = sym e; place = tt }
+pair-refuses f e = record { says = sym e; place = tt }
 
 module _ {s : List ℕ} {r : Lists} (x : ListsRead s r) where
-  pub pair-fault : (f : Refusal) → r ≡ L.Fault f → PairRead s (P.Fault f)
+  pub pair-refusal : (f : Refusal) → r ≡ L.Refused f → PairRead s (P.Refused f)
   unfolding pairIn
-  pair-fault f e = pair-faulty f (rw (lists-fault x f e) refl)
+  pair-refusal f e = pair-refuses f (rw (lists-refusal x f e) refl)
 
   module _ (n m middle third : ℕ) (e : r ≡ L.Parts n m middle third) where
     place : ListsPlace s n m middle third
@@ -58,15 +58,15 @@ module _ {s : List ℕ} {r : Lists} (x : ListsRead s r) where
     unfolding pairIn
     behind = rw (lists-parts x n m middle third e) refl
 
-    pub no-group-count : length s - third < countSize → PairRead s (P.Fault LengthWrong)
+    pub no-group-count : length s - third < countSize → PairRead s (P.Refused LengthWrong)
     unfolding groupSection
-    no-group-count h = pair-faulty LengthWrong (behind ∙ rw (lt-leb countSize (length (drop third s)) (rw length-drop h)) refl)
+    no-group-count h = pair-refuses LengthWrong (behind ∙ rw (lt-leb countSize (length (drop third s)) (rw length-drop h)) refl)
 
     module _ (a : countSize ≤ length s - third) (k : ℕ) (d : k ≡ denies gate) (v : ℕ) (c : v ≡ countIn (drop third s)) where
-      pub groups-differ : (v ≡ k → ⊥) → PairRead s (P.Fault GroupsDiffer)
+      pub groups-differ : (v ≡ k → ⊥) → PairRead s (P.Refused GroupsDiffer)
       unfolding groupSection
       groups-differ h =
-          pair-faulty GroupsDiffer (behind ∙ rw (le-leb countSize (length (drop third s)) (rw length-drop a), ← c, ← d, ne-eqb v k h) refl)
+          pair-refuses GroupsDiffer (behind ∙ rw (le-leb countSize (length (drop third s)) (rw length-drop a), ← c, ← d, ne-eqb v k h) refl)
 
       module _ (q : v ≡ k) {t : Groups} (y : GroupsRead (limits .total) k m (take (length s - (third + countSize)) (drop (third + countSize) s)) t) where
         groups : GroupsRead (limits .total) k m (drop (third + countSize) s) t
@@ -87,16 +87,16 @@ module _ {s : List ℕ} {r : Lists} (x : ListsRead s r) where
               rulesIn-length m (drop countSize (drop middle s)),
             )
 
-        pub third-fault : (f : Refusal) → t ≡ G.Fault f → PairRead s (P.Fault f)
-        third-fault f i = pair-faulty f (counted ∙ rw (groups-fault groups f i) refl)
+        pub third-refusal : (f : Refusal) → t ≡ G.Refused f → PairRead s (P.Refused f)
+        third-refusal f i = pair-refuses f (counted ∙ rw (groups-refusal groups f i) refl)
 
         module _ (boxes next : ℕ) (i : t ≡ G.Boxes boxes next) where
           left : length (drop next (drop (third + countSize) s)) ≡ length s - (third + countSize) - next
           left = length-drop next (drop (third + countSize) s) ∙ ap (λ (j : ℕ). j - next) (length-drop (third + countSize) s)
 
-          pub pair-over : next < length s - (third + countSize) → PairRead s (P.Fault LengthWrong)
+          pub pair-over : next < length s - (third + countSize) → PairRead s (P.Refused LengthWrong)
           pair-over h =
-              pair-faulty LengthWrong
+              pair-refuses LengthWrong
               (counted ∙ rw (groups-boxes groups boxes next i, ne-eqb (length (drop next (drop (third + countSize) s))) 0 (λ z. omega (arith, left))) refl)
 
           pub pair-read : length s - (third + countSize) ≤ next → PairRead s (P.Parts n m middle third boxes)

@@ -23,8 +23,8 @@ use Rattle.sheet.specs.Sections.{Reading, reading}
 use Rattle.sheet.specs.Orders.{order, orderBytes, listsIn}
 use Rattle.sheet.specs.Pairs.{groupSize, groupBoxes, behind, groupsIn, groupSection, pairIn, groupBytes, groupsBytes, pairBytes}
 use Rattle.wire.proofs.Counts.{count-back, count-behind, count-written-back, counted, counted-written-back}
-use Rattle.sheet.proofs.Outcomes.{through, faultless}
-use Rattle.sheet.proofs.Orders.{faultless-fits, ended-accepted, lists-faultless, lists-written-back, lists-back}
+use Rattle.sheet.proofs.Outcomes.{through, readable}
+use Rattle.sheet.proofs.Orders.{readable-fits, ended-accepted, lists-readable, lists-written-back, lists-back}
 use Rattle.lists.proofs.Lists.{each-every}
 use Rattle.policy.proofs.Answers.{test-accepted}
 use Rattle.wire.specs.Lists.{countIn}
@@ -168,7 +168,7 @@ denies-most (r ∷ l) = go (isAllow r) (denies-most l)
     go true h = omega arith
     go false h = omega arith
 
--- A pair that a pair sheet can hold: lists with no fault, as many groups as A has deny rules, of proper boxes, and within
+-- A pair that a pair sheet can hold: readable lists, as many groups as A has deny rules, of proper boxes, and within
 -- the total.
 pub record PairGood (lim : Limits) (p : Pair) : Type 0 where
   pub gate : listRefusal (lim .gate) (p .order .gate) ≡ 0
@@ -199,8 +199,8 @@ module _ (lim : Limits) (s : List ℕ) (p : Pair) (e : pairIn lim s ≡ accepted
   pub pair-good : lim .own ≤ lim .total → PairGood lim p
   pair-good h =
       let f = front in
-      let l = lists-faultless lim s (reading (p .order) (f .third)) (f .lists) in
-      let w = faultless (lim .own) (p .order .own) (l .1) in
+      let l = lists-readable lim s (reading (p .order) (f .third)) (f .lists) in
+      let w = readable (lim .own) (p .order .own) (l .1) in
       record {
         gate = l .0;
         own = l .1;
@@ -230,11 +230,11 @@ pair-back lim p u v w g =
     let o = p .order in
     let n : ℕ = length (p .groups) in
     let t : List ℕ = numberBytes countSize n ++ groupsBytes (p .groups) in
-    let f = faultless (lim .gate) (o .gate) (g .gate) in
+    let f = readable (lim .gate) (o .gate) (g .gate) in
     let c : n ≡ denies (o .gate) = g .counted in
     let k = denies-most (o .gate) in
     let l : listsIn lim (orderBytes o ++ t) ≡ accepted (reading o t) =
-    lists-back lim o t (faultless-fits (lim .gate) (o .gate) u (g .gate)) (faultless-fits (lim .own) (o .own) v (g .own)) ∙ rw (g .gate, g .own) refl in
+    lists-back lim o t (readable-fits (lim .gate) (o .gate) u (g .gate)) (readable-fits (lim .own) (o .own) v (g .own)) ∙ rw (g .gate, g .own) refl in
     let e : groupsIn lim n (length (o .own)) (groupsBytes (p .groups)) ≡ accepted (reading (p .groups) []) =
     rw append-nil at (groups-back lim (p .groups) (length (o .own)) [] w (g .groups .boxes) (g .groups .within)) in
     rw (

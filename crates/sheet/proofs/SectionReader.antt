@@ -20,7 +20,7 @@ use Rattle.sheet.specs.Sections.{reading, section}
 use Rattle.sheet.specs.Orders.{listIn}
 use Rattle.sheet.specs.Steps.{rulesOf, sectionHeard, SectionPlace, OfRules, SectionRead, listHeard, ListRead}
 use Rattle.sheet.specs.declared.Section.{Section}
-use Rattle.sheet.specs.declared.Section.the-variants.{Rules, Fault}
+use Rattle.sheet.specs.declared.Section.the-variants.{Rules, Refused}
 use Rattle.wire.specs.Lists.{countIn, listSize}
 
 -- The last of n rules, where the code finds it.
@@ -38,29 +38,29 @@ complete-last (suc n) s h =
     complete-at n (drop countSize s) ∙ rw (drop-drop (recordSize * n) countSize s, e) refl
 
 module _ (most : ℕ) (s : List ℕ) where
-  faulty : (f : Refusal) → section most s ≡ refused (numberOf f) → SectionRead most s (Fault f)
+  section-refuses : (f : Refusal) → section most s ≡ refused (numberOf f) → SectionRead most s (Refused f)
   unfolding sectionHeard OfRules
-  faulty f e = record { says = sym e; place = tt }
+  section-refuses f e = record { says = sym e; place = tt }
 
-  pub no-count : length s < countSize → SectionRead most s (Fault LengthWrong)
+  pub no-count : length s < countSize → SectionRead most s (Refused LengthWrong)
   unfolding section
-  no-count h = faulty LengthWrong (rw (lt-leb countSize (length s) h) refl)
+  no-count h = section-refuses LengthWrong (rw (lt-leb countSize (length s) h) refl)
 
   module _ (a : countSize ≤ length s) (n : ℕ) (e : n ≡ countIn s) where
-    pub too-few : n < 1 → SectionRead most s (Fault CountOutside)
+    pub too-few : n < 1 → SectionRead most s (Refused CountOutside)
     unfolding section
-    too-few h = faulty CountOutside (rw (le-leb countSize (length s) a, ← e, lt-leb 1 n h) refl)
+    too-few h = section-refuses CountOutside (rw (le-leb countSize (length s) a, ← e, lt-leb 1 n h) refl)
 
     module _ (b : 1 ≤ n) where
-      pub too-many : most < n → SectionRead most s (Fault CountOutside)
+      pub too-many : most < n → SectionRead most s (Refused CountOutside)
       unfolding section
-      too-many h = faulty CountOutside (rw (le-leb countSize (length s) a, ← e, le-leb 1 n b, lt-leb n most h) refl)
+      too-many h = section-refuses CountOutside (rw (le-leb countSize (length s) a, ← e, le-leb 1 n b, lt-leb n most h) refl)
 
       module _ (d : n ≤ most) where
-        pub no-records : length s < listSize n → SectionRead most s (Fault LengthWrong)
+        pub no-records : length s < listSize n → SectionRead most s (Refused LengthWrong)
         unfolding section
         no-records h =
-            faulty LengthWrong (rw (le-leb countSize (length s) a, ← e, le-leb 1 n b, le-leb n most d, lt-leb (listSize n) (length s) h) refl)
+            section-refuses LengthWrong (rw (le-leb countSize (length s) a, ← e, le-leb 1 n b, le-leb n most d, lt-leb (listSize n) (length s) h) refl)
 
         module _ (g : listSize n ≤ length s) where
           there :
@@ -69,8 +69,8 @@ module _ (most : ℕ) (s : List ℕ) where
           unfolding section
           there = rw (le-leb countSize (length s) a, ← e, le-leb 1 n b, le-leb n most d, le-leb (listSize n) (length s) g) refl
 
-          pub bad-rule : (v : Bool) → v ≡ every sound (rulesOf n s) → not v ≡ true → SectionRead most s (Fault RuleBad)
-          bad-rule v k h = faulty RuleBad (there ∙ rw (sym k ∙ not-true v h) refl)
+          pub bad-rule : (v : Bool) → v ≡ every sound (rulesOf n s) → not v ≡ true → SectionRead most s (Refused RuleBad)
+          bad-rule v k h = section-refuses RuleBad (there ∙ rw (sym k ∙ not-true v h) refl)
 
           -- what the code finds of the records and of the last rule
           module _ (v : Bool) (k : v ≡ every sound (rulesOf n s)) (h : not v ≡ false) (u : Bool) (x : Region) (q : u ≡ isFull highest x)
@@ -78,8 +78,8 @@ module _ (most : ℕ) (s : List ℕ) where
             last-is : complete (rulesOf n s) ≡ u
             last-is = complete-last n s b ∙ (sym (ap (isFull highest) y) ∙ sym q)
 
-            pub not-full : not u ≡ true → SectionRead most s (Fault NotComplete)
-            not-full l = faulty NotComplete (there ∙ rw (sym k ∙ not-false v h, last-is ∙ not-true u l) refl)
+            pub not-full : not u ≡ true → SectionRead most s (Refused NotComplete)
+            not-full l = section-refuses NotComplete (there ∙ rw (sym k ∙ not-false v h, last-is ∙ not-true u l) refl)
 
             pub section-read : not u ≡ false → SectionRead most s (Rules n (listSize n))
             unfolding sectionHeard OfRules
@@ -89,9 +89,9 @@ module _ (most : ℕ) (s : List ℕ) where
             }
 
 -- The section reader's answer, by its cases.
-pub section-fault : {most : ℕ} {s : List ℕ} {r : Section} → SectionRead most s r → (f : Refusal) → r ≡ Fault f → section most s ≡ refused (numberOf f)
+pub section-refusal : {most : ℕ} {s : List ℕ} {r : Section} → SectionRead most s r → (f : Refusal) → r ≡ Refused f → section most s ≡ refused (numberOf f)
 unfolding sectionHeard
-section-fault {s = s} x f e = sym (x .says) ∙ ap (sectionHeard s) e
+section-refusal {s = s} x f e = sym (x .says) ∙ ap (sectionHeard s) e
 
 pub section-rules :
     {most : ℕ} {s : List ℕ} {r : Section} → SectionRead most s r → (n next : ℕ) → r ≡ Rules n next
@@ -105,20 +105,20 @@ section-place x n next e = rw e at (x .place)
 
 -- A list by itself.
 module _ {most : ℕ} {s : List ℕ} where
-  list-faulty : (f : Refusal) → listIn most s ≡ refused (numberOf f) → ListRead most s (Fault f)
+  list-refuses : (f : Refusal) → listIn most s ≡ refused (numberOf f) → ListRead most s (Refused f)
   unfolding listHeard OfRules
-  list-faulty f e = record { says = sym e; place = tt }
+  list-refuses f e = record { says = sym e; place = tt }
 
   module _ {r : Section} (x : SectionRead most s r) where
-    pub list-fault : (f : Refusal) → r ≡ Fault f → ListRead most s (Fault f)
+    pub list-refusal : (f : Refusal) → r ≡ Refused f → ListRead most s (Refused f)
     unfolding listIn
-    list-fault f e = list-faulty f (rw (section-fault x f e) refl)
+    list-refusal f e = list-refuses f (rw (section-refusal x f e) refl)
 
     module _ (n next : ℕ) (e : r ≡ Rules n next) where
-      pub list-over : next < length s → ListRead most s (Fault LengthWrong)
+      pub list-over : next < length s → ListRead most s (Refused LengthWrong)
       unfolding listIn
       list-over h =
-          list-faulty LengthWrong (rw (section-rules x n next e, ne-eqb (length (drop next s)) 0 (λ z. omega (arith, length-drop next s))) refl)
+          list-refuses LengthWrong (rw (section-rules x n next e, ne-eqb (length (drop next s)) 0 (λ z. omega (arith, length-drop next s))) refl)
 
       pub list-read : length s ≤ next → ListRead most s (Rules n next)
       unfolding listIn listHeard OfRules

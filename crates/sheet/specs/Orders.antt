@@ -3,7 +3,7 @@ use mathlib.Core.List.{List, _++_}
 use Prim.Native.Nat.{ℕ, _+_}
 use lib.Dec.{eqb}
 use lib.ListN.{length}
-use Rattle.policy.specs.Fields.{Limits}
+use Rattle.policy.specs.Fields.{Limits, limits}
 use Rattle.policy.specs.Rules.{Rule}
 use Rattle.policy.specs.Refusals.{Outcome, accepted, test, andThen}
 use Rattle.policy.specs.Move.{Order}
@@ -35,11 +35,11 @@ unfoldable pub listIn : ℕ → List ℕ → Outcome (List Rule)
 listIn most s = andThen (section most s) (λ a. ended a (a .value))
 
 -- The largest A list, B list and order sheet.
-abbrev pub gateSize : Limits → ℕ
-gateSize lim = listSize (lim .gate)
+abbrev pub gateSize : ℕ
+gateSize = listSize (limits .gate)
 
-abbrev pub ownSize : Limits → ℕ
-ownSize lim = listSize (lim .own)
+abbrev pub ownSize : ℕ
+ownSize = listSize (limits .own)
 
-abbrev pub orderSize : Limits → ℕ
-orderSize lim = gateSize lim + ownSize lim
+abbrev pub orderSize : ℕ
+orderSize = gateSize + ownSize

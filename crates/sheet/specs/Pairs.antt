@@ -5,7 +5,7 @@ use Prim.Native.Nat.{ℕ, zero, suc, _+_, _*_, _-_}
 use lib.Dec.{leb, eqb}
 use lib.ListN.{length, drop}
 use Rattle.lists.specs.Lists.{every}
-use Rattle.policy.specs.Fields.{highest, boxSize, countSize, Limits}
+use Rattle.policy.specs.Fields.{highest, boxSize, countSize, Limits, limits}
 use Rattle.policy.specs.Ranges.{Region, proper}
 use Rattle.policy.specs.Rules.{denies}
 use Rattle.policy.specs.Refusals.{Outcome, accepted, test, andThen}
@@ -61,5 +61,5 @@ unfoldable pub pairBytes : Pair → List ℕ
 pairBytes s = orderBytes (s .order) ++ (numberBytes countSize (length (s .groups)) ++ groupsBytes (s .groups))
 
 -- The largest pair sheet: A and B full, a group for each gate rule, and boxes up to the total.
-abbrev pub pairSize : Limits → ℕ
-pairSize lim = orderSize lim + (countSize + countSize * lim .gate + boxSize * (lim .total - lim .own))
+abbrev pub pairSize : ℕ
+pairSize = orderSize + (countSize + countSize * limits .gate + boxSize * (limits .total - limits .own))

@@ -18,7 +18,7 @@ pub record Reading (A : Type 0) : Type 0 where
 abbrev pub reading : {A : Type 0} → A → List ℕ → Reading A
 reading v t = record { value = v; rest = t }
 
--- The first fault decides: no count (3), a count outside its limits (2), too few bytes for so many records (3), a record that
+-- The first refusal decides: no count (3), a count outside its limits (2), too few bytes for so many records (3), a record that
 -- is no rule (4), a last one that is not full (5).
 unfoldable pub section : ℕ → List ℕ → Outcome (Reading (List Rule))
 section most s =

@@ -32,17 +32,17 @@ rulesOf n s = rulesIn n (drop countSize s)
 -- A section: so many rules, and the bytes behind them from `next` on.
 unfoldable pub sectionHeard : List ℕ → Section → Outcome (Reading (List Rule))
 sectionHeard s (S.Rules n next) = accepted (reading (rulesOf n s) (drop next s))
-sectionHeard s (S.Fault f) = refused (numberOf f)
+sectionHeard s (S.Refused f) = refused (numberOf f)
 
 pub record SectionPlace (most : ℕ) (s : List ℕ) (n next : ℕ) : Type 0 where
   pub end : next ≡ listSize n
   pub inside : next ≤ length s
   pub limit : n ≤ most
 
--- What is said of the rules that were read; of a fault nothing is.
+-- What is said of the rules that were read; of a refusal nothing is.
 unfoldable pub OfRules : (ℕ → ℕ → Type 0) → Section → Type 0
 OfRules says (S.Rules n next) = says n next
-OfRules says (S.Fault f) = Unit {0}
+OfRules says (S.Refused f) = Unit {0}
 
 pub record SectionRead (most : ℕ) (s : List ℕ) (r : Section) : Type 0 where
   pub says : sectionHeard s r ≡ section most s
@@ -51,7 +51,7 @@ pub record SectionRead (most : ℕ) (s : List ℕ) (r : Section) : Type 0 where
 -- A list by itself: a section that ends where the bytes end.
 unfoldable pub listHeard : List ℕ → Section → Outcome (List Rule)
 listHeard s (S.Rules n next) = accepted (rulesOf n s)
-listHeard s (S.Fault f) = refused (numberOf f)
+listHeard s (S.Refused f) = refused (numberOf f)
 
 pub record ListPlace (most : ℕ) (s : List ℕ) (n next : ℕ) : Type 0 where
   pub section : SectionPlace most s n next
@@ -67,7 +67,7 @@ listsOf n m middle s = order (rulesOf n s) (rulesOf m (drop middle s))
 
 unfoldable pub listsHeard : List ℕ → Lists → Outcome (Reading Order)
 listsHeard s (L.Parts n m middle third) = accepted (reading (listsOf n m middle s) (drop third s))
-listsHeard s (L.Fault f) = refused (numberOf f)
+listsHeard s (L.Refused f) = refused (numberOf f)
 
 pub record ListsPlace (s : List ℕ) (n m middle third : ℕ) : Type 0 where
   pub gateEnd : middle ≡ listSize n
@@ -78,7 +78,7 @@ pub record ListsPlace (s : List ℕ) (n m middle third : ℕ) : Type 0 where
 
 unfoldable pub ListsPlaced : List ℕ → Lists → Type 0
 ListsPlaced s (L.Parts n m middle third) = ListsPlace s n m middle third
-ListsPlaced s (L.Fault f) = Unit {0}
+ListsPlaced s (L.Refused f) = Unit {0}
 
 pub record ListsRead (s : List ℕ) (r : Lists) : Type 0 where
   pub says : listsHeard s r ≡ listsIn limits s
@@ -87,11 +87,11 @@ pub record ListsRead (s : List ℕ) (r : Lists) : Type 0 where
 -- An order sheet: it ends where B ends.
 unfoldable pub orderHeard : List ℕ → OrderParts → Outcome Order
 orderHeard s (O.Parts n m middle) = accepted (listsOf n m middle s)
-orderHeard s (O.Fault f) = refused (numberOf f)
+orderHeard s (O.Refused f) = refused (numberOf f)
 
 unfoldable pub OrderPlaced : List ℕ → OrderParts → Type 0
 OrderPlaced s (O.Parts n m middle) = ListsPlace s n m middle (length s)
-OrderPlaced s (O.Fault f) = Unit {0}
+OrderPlaced s (O.Refused f) = Unit {0}
 
 pub record OrderRead (s : List ℕ) (r : OrderParts) : Type 0 where
   pub says : orderHeard s r ≡ orderIn limits s
@@ -113,7 +113,7 @@ boxCount n s = length (together (groupsFrom n s))
 -- Groups: how many boxes they have, and the bytes behind them from `next` on.
 unfoldable pub groupsHeard : ℕ → List ℕ → Groups → Outcome (Reading (List (List Region)))
 groupsHeard n s (G.Boxes count next) = accepted (reading (groupsFrom n s) (drop next s))
-groupsHeard n s (G.Fault f) = refused (numberOf f)
+groupsHeard n s (G.Refused f) = refused (numberOf f)
 
 pub record GroupsPlace (most n total : ℕ) (s : List ℕ) (count next : ℕ) : Type 0 where
   pub boxes : count ≡ boxCount n s
@@ -123,7 +123,7 @@ pub record GroupsPlace (most n total : ℕ) (s : List ℕ) (count next : ℕ) : 
 
 unfoldable pub GroupsPlaced : ℕ → ℕ → ℕ → List ℕ → Groups → Type 0
 GroupsPlaced most n total s (G.Boxes count next) = GroupsPlace most n total s count next
-GroupsPlaced most n total s (G.Fault f) = Unit {0}
+GroupsPlaced most n total s (G.Refused f) = Unit {0}
 
 pub record GroupsRead (most n total : ℕ) (s : List ℕ) (r : Groups) : Type 0 where
   pub says : groupsHeard n s r ≡ groupsIn (withTotal most) n total s
@@ -138,7 +138,7 @@ pairOf n m middle third s = record {
 
 unfoldable pub pairHeard : List ℕ → PairParts → Outcome Pair
 pairHeard s (P.Parts n m middle third boxes) = accepted (pairOf n m middle third s)
-pairHeard s (P.Fault f) = refused (numberOf f)
+pairHeard s (P.Refused f) = refused (numberOf f)
 
 pub record PairPlace (s : List ℕ) (n m middle third boxes : ℕ) : Type 0 where
   pub lists : ListsPlace s n m middle third
@@ -148,7 +148,7 @@ pub record PairPlace (s : List ℕ) (n m middle third boxes : ℕ) : Type 0 wher
 
 unfoldable pub PairPlaced : List ℕ → PairParts → Type 0
 PairPlaced s (P.Parts n m middle third boxes) = PairPlace s n m middle third boxes
-PairPlaced s (P.Fault f) = Unit {0}
+PairPlaced s (P.Refused f) = Unit {0}
 
 pub record PairRead (s : List ℕ) (r : PairParts) : Type 0 where
   pub says : pairHeard s r ≡ pairIn limits s

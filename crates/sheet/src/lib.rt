@@ -30,10 +30,10 @@ pub const PAIR_BYTES: usize = ORDER_BYTES
     + COUNT_BYTES * GATE_MOST
     + BOX_BYTES * (TOTAL_MOST - OWN_MOST);
 
-// A section: how many rules it has and where it ends, or its first fault.
+// A section: how many rules it has and where it ends, or its first refusal.
 pub enum Section {
     Rules { count: usize, next: usize },
-    Fault(Refusal),
+    Refused(Refusal),
 }
 
 // Sections A and B: their counts, where B begins and where it ends.
@@ -44,13 +44,13 @@ enum Lists {
         middle: usize,
         third: usize,
     },
-    Fault(Refusal),
+    Refused(Refusal),
 }
 
 // Groups: how many boxes they have together and where they end.
 enum Groups {
     Boxes { count: usize, next: usize },
-    Fault(Refusal),
+    Refused(Refusal),
 }
 
 // An order sheet: the counts of A and B, and where B begins.
@@ -60,7 +60,7 @@ pub enum OrderParts {
         own: usize,
         middle: usize,
     },
-    Fault(Refusal),
+    Refused(Refusal),
 }
 
 // A pair sheet: the counts of A and B, where B and C begin, and how many boxes all groups have.
@@ -72,7 +72,7 @@ pub enum PairParts {
         third: usize,
         boxes: usize,
     },
-    Fault(Refusal),
+    Refused(Refusal),
 }
 
 fn all_sound(s: &[u8], n: usize) -> bool
@@ -131,24 +131,24 @@ pub fn read_section(s: &[u8], most: usize) -> Section
     ensures { λ r. ⌜ SectionRead most (now (s .entry)) r ⌝ }
 {
     if s.len() < COUNT_BYTES {
-        return Section::Fault(Refusal::LengthWrong);
+        return Section::Refused(Refusal::LengthWrong);
     }
     let count = wire::count_at(s, 0);
     if count < 1 {
-        return Section::Fault(Refusal::CountOutside);
+        return Section::Refused(Refusal::CountOutside);
     }
     if most < count {
-        return Section::Fault(Refusal::CountOutside);
+        return Section::Refused(Refusal::CountOutside);
     }
     let next = COUNT_BYTES + RECORD_BYTES * count;
     if s.len() < next {
-        return Section::Fault(Refusal::LengthWrong);
+        return Section::Refused(Refusal::LengthWrong);
     }
     if !all_sound(s, count) {
-        return Section::Fault(Refusal::RuleBad);
+        return Section::Refused(Refusal::RuleBad);
     }
     if !wire::box_at(s, next - RECORD_BYTES).is_full() {
-        return Section::Fault(Refusal::NotComplete);
+        return Section::Refused(Refusal::NotComplete);
     }
     Section::Rules { count, next }
 }
@@ -158,10 +158,10 @@ pub fn read_list(s: &[u8], most: usize) -> Section
     ensures { λ r. ⌜ ListRead most (now (s .entry)) r ⌝ }
 {
     match read_section(s, most) {
-        Section::Fault(f) => Section::Fault(f),
+        Section::Refused(f) => Section::Refused(f),
         Section::Rules { count, next } => {
             if next < s.len() {
-                return Section::Fault(Refusal::LengthWrong);
+                return Section::Refused(Refusal::LengthWrong);
             }
             Section::Rules { count, next }
         }
@@ -173,12 +173,12 @@ fn read_lists(s: &[u8]) -> Lists
     ensures { λ r. ⌜ ListsRead (now (s .entry)) r ⌝ }
 {
     match read_section(s, GATE_MOST) {
-        Section::Fault(f) => Lists::Fault(f),
+        Section::Refused(f) => Lists::Refused(f),
         Section::Rules {
             count: gate,
             next: middle,
         } => match read_section(&s[middle..], OWN_MOST) {
-            Section::Fault(f) => Lists::Fault(f),
+            Section::Refused(f) => Lists::Refused(f),
             Section::Rules { count: own, next } => Lists::Parts {
                 gate,
                 own,
@@ -194,7 +194,7 @@ pub fn read_order(s: &[u8]) -> OrderParts
     ensures { λ r. ⌜ OrderRead (now (s .entry)) r ⌝ }
 {
     match read_lists(s) {
-        Lists::Fault(f) => OrderParts::Fault(f),
+        Lists::Refused(f) => OrderParts::Refused(f),
         Lists::Parts {
             gate,
             own,
@@ -202,7 +202,7 @@ pub fn read_order(s: &[u8]) -> OrderParts
             third,
         } => {
             if third < s.len() {
-                return OrderParts::Fault(Refusal::LengthWrong);
+                return OrderParts::Refused(Refusal::LengthWrong);
             }
             OrderParts::Parts { gate, own, middle }
         }
@@ -215,18 +215,18 @@ fn read_group(s: &[u8], total: usize, most: usize) -> Groups
     ensures { λ r. ⌜ GroupsRead most 1 total (now (s .entry)) r ⌝ }
 {
     if s.len() < COUNT_BYTES {
-        return Groups::Fault(Refusal::LengthWrong);
+        return Groups::Refused(Refusal::LengthWrong);
     }
     let count = wire::count_at(s, 0);
     if most - total < count {
-        return Groups::Fault(Refusal::TooManyBoxes);
+        return Groups::Refused(Refusal::TooManyBoxes);
     }
     let next = COUNT_BYTES + BOX_BYTES * count;
     if s.len() < next {
-        return Groups::Fault(Refusal::LengthWrong);
+        return Groups::Refused(Refusal::LengthWrong);
     }
     if !all_proper(s, count) {
-        return Groups::Fault(Refusal::RuleBad);
+        return Groups::Refused(Refusal::RuleBad);
     }
     Groups::Boxes { count, next }
 }
@@ -241,7 +241,7 @@ fn read_groups(s: &[u8], n: usize, own: usize, most: usize) -> Groups
     let mut i: usize = 0;
     while i < n {
         match read_group(&s[at..], total, most) {
-            Groups::Fault(f) => return Groups::Fault(f),
+            Groups::Refused(f) => return Groups::Refused(f),
             Groups::Boxes { count, next } => {
                 total += count;
                 at += next;
@@ -260,7 +260,7 @@ pub fn read_pair(s: &[u8]) -> PairParts
     ensures { λ r. ⌜ PairRead (now (s .entry)) r ⌝ }
 {
     match read_lists(s) {
-        Lists::Fault(f) => PairParts::Fault(f),
+        Lists::Refused(f) => PairParts::Refused(f),
         Lists::Parts {
             gate,
             own,
@@ -269,18 +269,18 @@ pub fn read_pair(s: &[u8]) -> PairParts
         } => {
             let left = s.len() - third;
             if left < COUNT_BYTES {
-                return PairParts::Fault(Refusal::LengthWrong);
+                return PairParts::Refused(Refusal::LengthWrong);
             }
             let groups = count_denies(s, gate);
             if wire::count_at(s, third) != groups {
-                return PairParts::Fault(Refusal::GroupsDiffer);
+                return PairParts::Refused(Refusal::GroupsDiffer);
             }
             let from = third + COUNT_BYTES;
             match read_groups(&s[from..], groups, own, TOTAL_MOST) {
-                Groups::Fault(f) => PairParts::Fault(f),
+                Groups::Refused(f) => PairParts::Refused(f),
                 Groups::Boxes { count: boxes, next } => {
                     if next < s.len() - from {
-                        return PairParts::Fault(Refusal::LengthWrong);
+                        return PairParts::Refused(Refusal::LengthWrong);
                     }
                     PairParts::Parts {
                         gate,

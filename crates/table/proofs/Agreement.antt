@@ -12,7 +12,7 @@ use Rattle.lists.specs.Lists.{Each}
 use Rattle.policy.specs.Fields.{countSize}
 use Rattle.policy.specs.Ranges.{Packet}
 use Rattle.policy.specs.Rules.{Rule, sound, first}
-use Rattle.policy.specs.Refusals.{refusalBase, Outcome, accepted, test, faults}
+use Rattle.policy.specs.Refusals.{refusalBase, Outcome, accepted, test, rulesRefusal}
 use Rattle.policy.proofs.Answers.{test-accepted}
 use Rattle.wire.specs.Numbers.{numberIn}
 use Rattle.wire.specs.Records.{rulesIn}
@@ -61,7 +61,7 @@ unfit-bad r h = unfit r (sound r) refl h
 
 module _ (most : ℕ) (p : Packet) (l : List Rule) where
   -- Where no rule is bad and the count is within its limits, first match decides.
-  pub table-first : faults l ≡ 0 → 1 ≤ length l → length l ≤ most → lookupTable most p l ≡ decidedBy (first p l)
+  pub table-first : rulesRefusal l ≡ 0 → 1 ≤ length l → length l ≤ most → lookupTable most p l ≡ decidedBy (first p l)
   unfolding lookupTable
   table-first h some few = rw (le-leb 1 (length l) some, le-leb (length l) most few) (look-first 0 p l h)
 

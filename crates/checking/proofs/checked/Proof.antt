@@ -1,7 +1,7 @@
 -- `checked` meets its contract. Assumes nothing.
 use borrow.Author.Needs.{needs}
 use mathlib.Core.Path.{_∙_}
-use Rattle.policy.specs.Fields.{limits, workSize}
+use Rattle.policy.specs.Fields.{workSize}
 use Rattle.planner.proofs.Calls.{zeroed-same}
 use Rattle.checking.proofs.checked.Statement.{statement}
 use Rattle.checking.proofs.checked.Tie as tie
@@ -21,7 +21,7 @@ same-length c = search needs
 returns : tie.Need-returns
 returns c =
     let x = c .before .before .before .before .before .before .before .compare .ensures in
-    (x .0, c .before .before .zero .ensures ∙ zeroed-same (workSize limits) _ _ (x .1))
+    (x .0, c .before .before .zero .ensures ∙ zeroed-same workSize _ _ (x .1))
 
 pub checked-spec : {M : Type 1} → statement M
 checked-spec =

@@ -7,7 +7,7 @@ use mathlib.Core.List.{List}
 use Prim.Native.Nat.{ℕ, _-_, _≤_}
 use lib.ListN.{length, take, drop}
 use Rattle.lists.proofs.Parts.{tail-whole}
-use Rattle.policy.specs.Fields.{countSize, limits}
+use Rattle.policy.specs.Fields.{countSize}
 use Rattle.wire.proofs.Numbers.{bytes-all}
 use Rattle.sheet.proofs.Accepted.{PairAccepted, pair-refused, pair-accepted}
 use Rattle.draft.specs.Steps.{draftSize}
@@ -38,7 +38,7 @@ module _ (c : tie.After-gate) where
   rules : take (length s - countSize) (drop countSize s) ≡ drop countSize s
   rules = tail-whole s countSize (lists-inside read)
 
-  room : draftSize limits ≤ length (c .before .before .before .before .before .before .args .draft .now)
+  room : draftSize ≤ length (c .before .before .before .before .before .before .args .draft .now)
   room = c .before .before .before .before .before .before .pre .0
 
 sub-draft-groups : tie.Need-sub-draft-groups

@@ -1,7 +1,6 @@
 -- `foldplover_delete` meets its contract: it hands over to `edit`. Assumes nothing.
 use borrow.Author.Needs.{needs}
 use native.Mathlib.Omega.{arith}
-use Rattle.policy.specs.Fields.{limits}
 use Rattle.sheet.specs.Pairs.{pairBytes, pairSize}
 use Rattle.policy.specs.Refusals.{said}
 use Rattle.foldplover.specs.Coded.{Plain}
@@ -16,7 +15,7 @@ edit-requires : tie.Need-edit-requires
 edit-requires c κs = search needs
 
 plain : (c : tie.After-slice-known4) → Plain (said (c .before .before .before .before .edit .result))
-plain c = call-plain pairBytes (pairSize limits) _ _ _ _ (c .before .before .before .before .edit .ensures) (search needs) (omega arith)
+plain c = call-plain pairBytes pairSize _ _ _ _ (c .before .before .before .before .edit .ensures) (search needs) (omega arith)
 
 answer-number-requires : tie.Need-answer-number-requires
 answer-number-requires c κs = plain c

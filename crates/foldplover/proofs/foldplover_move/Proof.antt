@@ -1,7 +1,6 @@
 -- `foldplover_move` meets its contract: it hands over to `move_order`. Assumes nothing.
 use borrow.Author.Needs.{needs}
 use native.Mathlib.Omega.{arith}
-use Rattle.policy.specs.Fields.{limits}
 use Rattle.policy.specs.Refusals.{said}
 use Rattle.sheet.specs.Pairs.{pairBytes, pairSize}
 use Rattle.foldplover.specs.Coded.{Plain}
@@ -13,7 +12,7 @@ move-order-requires : tie.Need-move-order-requires
 move-order-requires c κs = search needs
 
 plain : (c : tie.After-slice-known4) → Plain (said (c .before .before .before .before .move-order .result))
-plain c = call-plain pairBytes (pairSize limits) _ _ _ _ (c .before .before .before .before .move-order .ensures) (search needs) (omega arith)
+plain c = call-plain pairBytes pairSize _ _ _ _ (c .before .before .before .before .move-order .ensures) (search needs) (omega arith)
 
 answer-number-requires : tie.Need-answer-number-requires
 answer-number-requires c κs = plain c

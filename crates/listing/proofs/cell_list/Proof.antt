@@ -16,7 +16,7 @@ returns c =
 returns-2 : tie.Need-returns-2
 returns-2 c =
     let a = c .before .before .before .before .before .args in
-    call-short cellBytes cellListSize _ (checkOf limits (a .sheet .now)) (a .list .now) (a .work .now) (work-short cellListSize (workSize limits) (a .list .now) (a .work .now) (c .before .if1 .left) (c .if2 .taken))
+    call-short cellBytes cellListSize _ (checkOf limits (a .sheet .now)) (a .list .now) (a .work .now) (work-short cellListSize workSize (a .list .now) (a .work .now) (c .before .if1 .left) (c .if2 .taken))
 
 checked-requires : tie.Need-checked-requires
 checked-requires c κs = search needs
@@ -38,7 +38,7 @@ same-length c = search needs
 returns-3 : tie.Need-returns-3
 returns-3 c =
     let a = c .before .before .before .before .before .before .before .before .before .before .before .before .args in
-    list-refused cellBytes cellListSize _ (a .sheet .now) (a .list .now) (a .work .now) (both-there cellListSize (workSize limits) (a .list .now) (a .work .now) (c .before .before .before .before .before .before .before .before .if1 .left) (c .before .before .before .before .before .before .before .if2 .left))
+    list-refused cellBytes cellListSize _ (a .sheet .now) (a .list .now) (a .work .now) (both-there cellListSize workSize (a .list .now) (a .work .now) (c .before .before .before .before .before .before .before .before .if1 .left) (c .before .before .before .before .before .before .before .if2 .left))
     (c .before .before .before .before .before .checked .ensures .1) (rw (c .before .f .given .1) at (c .before .before .before .before .before .checked .ensures .0))
 
 same-length-2 : tie.Need-same-length-2
@@ -50,7 +50,7 @@ same-length-3 c = search needs
 returns-4 : tie.Need-returns-4
 returns-4 c =
     let a = c .before .before .before .before .before .before .before .before .before .before .before .before .before .before .before .before .args in
-    list-written cellBytes cellListSize _ (a .sheet .now) (a .list .now) (a .work .now) (both-there cellListSize (workSize limits) (a .list .now) (a .work .now) (c .before .before .before .before .before .before .before .before .before .before .before .before .if1 .left) (c .before .before .before .before .before .before .before .before .before .before .before .if2 .left))
+    list-written cellBytes cellListSize _ (a .sheet .now) (a .list .now) (a .work .now) (both-there cellListSize workSize (a .list .now) (a .work .now) (c .before .before .before .before .before .before .before .before .before .before .before .before .if1 .left) (c .before .before .before .before .before .before .before .before .before .before .before .if2 .left))
     (c .before .before .before .before .before .before .before .before .before .checked .ensures .1) (rw (c .before .before .before .before .before .gate .given .1) at (c .before .before .before .before .before .before .before .before .before .checked .ensures .0)) (c .before .before .put-cell-list .ensures)
 
 pub cell-list-spec : {M : Type 1} → statement M

@@ -15,7 +15,7 @@ returns c =
 returns-2 : tie.Need-returns-2
 returns-2 c =
     let a = c .before .before .before .before .before .args in
-    call-short gateBytes gateListSize _ (checkOf limits (a .sheet .now)) (a .list .now) (a .work .now) (work-short gateListSize (workSize limits) (a .list .now) (a .work .now) (c .before .if1 .left) (c .if2 .taken))
+    call-short gateBytes gateListSize _ (checkOf limits (a .sheet .now)) (a .list .now) (a .work .now) (work-short gateListSize workSize (a .list .now) (a .work .now) (c .before .if1 .left) (c .if2 .taken))
 
 checked-requires : tie.Need-checked-requires
 checked-requires c κs = search needs
@@ -41,7 +41,7 @@ same-length c = search needs
 returns-3 : tie.Need-returns-3
 returns-3 c =
     let a = c .before .before .before .before .before .before .before .before .before .before .before .before .args in
-    list-refused gateBytes gateListSize _ (a .sheet .now) (a .list .now) (a .work .now) (both-there gateListSize (workSize limits) (a .list .now) (a .work .now) (c .before .before .before .before .before .before .before .before .if1 .left) (c .before .before .before .before .before .before .before .if2 .left))
+    list-refused gateBytes gateListSize _ (a .sheet .now) (a .list .now) (a .work .now) (both-there gateListSize workSize (a .list .now) (a .work .now) (c .before .before .before .before .before .before .before .before .if1 .left) (c .before .before .before .before .before .before .before .if2 .left))
     (c .before .before .before .before .before .checked .ensures .1) (rw (c .before .f .given .1) at (c .before .before .before .before .before .checked .ensures .0))
 
 same-length-2 : tie.Need-same-length-2
@@ -53,7 +53,7 @@ same-length-3 c = search needs
 returns-4 : tie.Need-returns-4
 returns-4 c =
     let a = c .before .before .before .before .before .before .before .before .before .before .before .before .before .before .before .before .before .before .before .before .args in
-    list-written gateBytes gateListSize _ (a .sheet .now) (a .list .now) (a .work .now) (both-there gateListSize (workSize limits) (a .list .now) (a .work .now) (c .before .before .before .before .before .before .before .before .before .before .before .before .before .before .before .before .if1 .left) (c .before .before .before .before .before .before .before .before .before .before .before .before .before .before .before .if2 .left))
+    list-written gateBytes gateListSize _ (a .sheet .now) (a .list .now) (a .work .now) (both-there gateListSize workSize (a .list .now) (a .work .now) (c .before .before .before .before .before .before .before .before .before .before .before .before .before .before .before .before .if1 .left) (c .before .before .before .before .before .before .before .before .before .before .before .before .before .before .before .if2 .left))
     (c .before .before .before .before .before .before .before .before .before .before .before .before .before .checked .ensures .1) (rw (c .before .before .before .before .before .before .before .before .before .enum-told .given .1) at (c .before .before .before .before .before .before .before .before .before .before .before .before .before .checked .ensures .0))
     (gate-put _ (a .list .now) _ _ _ (c .before .before .before .before .before .before .before .before .before .before .before .before .before .before .before .before .if1 .left) (c .before .before .before .allow-all .ensures) (c .before .before .before .before .before .before .before .put-count .ensures) (c .before .before .put-rule .ensures))
 

@@ -3,9 +3,8 @@ use borrow.Author.Needs.{needs}
 use Prim.Native.Nat.{_+_, _≤_}
 use native.Mathlib.Omega.{arith}
 use lib.ListN.{length}
-use Rattle.policy.specs.Fields.{limits}
 use Rattle.sheet.specs.Orders.{orderSize}
-use Rattle.orders.proofs.Joins.{both-fit, sheet-short, join-gate-fault, join-own-fault, join-done}
+use Rattle.orders.proofs.Joins.{both-fit, sheet-short, join-gate-refusal, join-own-refusal, join-done}
 use Rattle.orders.proofs.join.Statement.{statement}
 use Rattle.orders.proofs.join.Tie as tie
 
@@ -33,7 +32,7 @@ enum-told-2 c = search needs
 fill-both-requires : tie.Need-fill-both-requires
 fill-both-requires c κs =
     let a = c .before .before .before .before .before .before .before .before .before .before .before .args in
-    let h : length (a .a .now) + length (a .b .now) ≤ orderSize limits = search (needs, both-fit) in
+    let h : length (a .a .now) + length (a .b .now) ≤ orderSize = search (needs, both-fit) in
     (omega arith, omega arith)
 
 add-t18 : tie.Need-add-t18
@@ -43,13 +42,13 @@ returns-2 : tie.Need-returns-2
 returns-2 c =
     let a = c .before .before .before .before .before .before .before .before .args in
     let g = c .before .before .before .read-list in
-    join-gate-fault (a .a .now) (a .b .now) (a .sheet .now) (c .before .before .before .before .if1 .left) {r = g .result} (g .ensures) _ (c .before .f .given .1)
+    join-gate-refusal (a .a .now) (a .b .now) (a .sheet .now) (c .before .before .before .before .if1 .left) {r = g .result} (g .ensures) _ (c .before .f .given .1)
 
 returns-3 : tie.Need-returns-3
 returns-3 c =
     let a = c .before .before .before .before .before .before .before .before .before .before .before .args in
     let g = c .before .before .before .before .before .before .read-list in
-    join-own-fault (a .a .now) (a .b .now) (a .sheet .now) (c .before .before .before .before .before .before .before .if1 .left) {r = g .result} (g .ensures) (c .before .before .before .before .before .before .before .before .before .before .shared-slice-known .given) _ _ (c .before .before .before .before .enum-told .given .1) (c .before .before .before .read-list2 .ensures) _ (c .before .f2 .given .1)
+    join-own-refusal (a .a .now) (a .b .now) (a .sheet .now) (c .before .before .before .before .before .before .before .if1 .left) {r = g .result} (g .ensures) (c .before .before .before .before .before .before .before .before .before .before .shared-slice-known .given) _ _ (c .before .before .before .before .enum-told .given .1) (c .before .before .before .read-list2 .ensures) _ (c .before .f2 .given .1)
 
 same-length : tie.Need-same-length
 same-length c = search needs

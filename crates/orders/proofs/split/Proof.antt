@@ -1,6 +1,6 @@
 -- `split` meets its statement, return by return. Assumes nothing.
 use borrow.Author.Needs.{needs}
-use Rattle.orders.proofs.Splits.{middle-within, gate-long, gate-fits, own-fits, gate-short, own-short, split-fault, split-done}
+use Rattle.orders.proofs.Splits.{middle-within, gate-long, gate-fits, own-fits, gate-short, own-short, split-refusal, split-done}
 use Rattle.orders.proofs.split.Statement.{statement}
 use Rattle.orders.proofs.split.Tie as tie
 
@@ -38,7 +38,7 @@ fill-requires-2 : tie.Need-fill-requires-2
 fill-requires-2 c κs = (own-fits (c .before .before .before .before .before .before .before .before .before .before .read-order .ensures) _ _ _ (c .before .before .before .before .before .before .before .before .middle .given .1), search needs)
 
 returns-3 : tie.Need-returns-3
-returns-3 c = search (needs, split-fault)
+returns-3 c = search (needs, split-refusal)
 
 same-length : tie.Need-same-length
 same-length c = search needs

@@ -7,7 +7,7 @@ use Prim.Native.Nat.{ℕ, _+_, _*_, _-_, _≤_}
 use lib.ListN.{length, take, drop, length-take}
 use Rattle.lists.specs.Lists.{Each}
 use Rattle.lists.proofs.Parts.{tail-whole}
-use Rattle.policy.specs.Fields.{boxSize, countSize, limits}
+use Rattle.policy.specs.Fields.{boxSize, countSize}
 use Rattle.wire.specs.Numbers.{Byte}
 use Rattle.wire.proofs.Numbers.{bytes-all}
 use Rattle.draft.specs.Steps.{draftSize, DraftedGroups, runSize, slotsBehind, orderOf, groupsAt}
@@ -31,7 +31,7 @@ module _ (c : tie.After-shared-slice-known) where
   ready : Finishing (c .before .before .args .sheet .now) (c .before .before .args .stands) list (c .before .before .args .gate) (c .before .before .args .own) (c .before .before .args .around) (c .before .before .args .work .now)
   ready = c .before .before .pre .0
 
-  roomy : draftSize limits ≤ length (c .before .before .args .draft .now)
+  roomy : draftSize ≤ length (c .before .before .args .draft .now)
   roomy = c .before .before .pre .2
 
   all : Each Byte (orderOf list (c .before .before .args .stands) (c .before .before .args .sheet .now))

@@ -10,12 +10,12 @@ use Rattle.planner.proofs.move_order.Tie as tie
 returns : tie.Need-returns
 returns c =
     let a = c .before .before .before .before .args in
-    call-short pairBytes (pairSize limits) _ (moveOf limits (a .order .now)) (a .sheet .now) (a .work .now) (room-short (pairSize limits) (a .sheet .now) _ (c .if1 .taken))
+    call-short pairBytes pairSize _ (moveOf limits (a .order .now)) (a .sheet .now) (a .work .now) (room-short pairSize (a .sheet .now) _ (c .if1 .taken))
 
 returns-2 : tie.Need-returns-2
 returns-2 c =
     let a = c .before .before .before .before .before .args in
-    call-short pairBytes (pairSize limits) _ (moveOf limits (a .order .now)) (a .sheet .now) (a .work .now) (work-short (pairSize limits) (workSize limits) (a .sheet .now) (a .work .now) (c .before .if1 .left) (c .if2 .taken))
+    call-short pairBytes pairSize _ (moveOf limits (a .order .now)) (a .sheet .now) (a .work .now) (work-short pairSize workSize (a .sheet .now) (a .work .now) (c .before .if1 .left) (c .if2 .taken))
 
 plan-requires : tie.Need-plan-requires
 plan-requires c κs = search needs
@@ -32,7 +32,7 @@ same-length-2 c = search needs
 returns-3 : tie.Need-returns-3
 returns-3 c =
     let a = c .before .before .before .before .before .before .before .before .before .before .before .before .before .before .before .before .args in
-    call-done pairBytes (pairSize limits) _ (moveOf limits (a .order .now)) (a .sheet .now) (a .work .now) (both-there (pairSize limits) (workSize limits) (a .sheet .now) (a .work .now) (c .before .before .before .before .before .before .before .before .before .before .before .before .if1 .left) (c .before .before .before .before .before .before .before .before .before .before .before .if2 .left))
+    call-done pairBytes pairSize _ (moveOf limits (a .order .now)) (a .sheet .now) (a .work .now) (both-there pairSize workSize (a .sheet .now) (a .work .now) (c .before .before .before .before .before .before .before .before .before .before .before .before .if1 .left) (c .before .before .before .before .before .before .before .before .before .before .before .if2 .left))
     (c .before .before .before .before .before .before .before .before .plan .ensures) (c .before .before .zero .ensures)
 
 pub move-order-spec : {M : Type 1} → statement M

@@ -3,7 +3,6 @@ use borrow.Author.Needs.{needs}
 use native.Mathlib.Omega.{arith}
 use mathlib.Core.Path.{sym}
 use lib.Seq.{length-take-le}
-use Rattle.policy.specs.Fields.{limits}
 use Rattle.sheet.specs.Pairs.{pairBytes, pairSize}
 use Rattle.planner.proofs.Lengths.{call-length}
 use Rattle.printing.proofs.print_plan.Statement.{statement}
@@ -30,7 +29,7 @@ enum-known-n c = search needs
 array-share-prefix-sheet : tie.Need-array-share-prefix-sheet
 array-share-prefix-sheet c =
     let k = c .before .before .before .before .before .move-order in
-    let h = call-length pairBytes (pairSize limits) _ _ _ (k .ensures) (search needs) _ (c .before .n .given .1) in
+    let h = call-length pairBytes pairSize _ _ _ (k .ensures) (search needs) _ (c .before .n .given .1) in
     omega arith
 
 slice-aggregate-print-lists : tie.Need-slice-aggregate-print-lists

@@ -17,9 +17,9 @@ use Rattle.sheet.proofs.Accepted.{PairAccepted, ListAccepted, pair-refused, pai
 use Rattle.planner.specs.declared.Change.{Change}
 use Rattle.planner.proofs.Finished.{refuses}
 use Rattle.changes.specs.Steps.{changedBytes, ListChanged}
-use Rattle.revising.proofs.Revised.{pair-faulty}
+use Rattle.revising.proofs.Revised.{pair-refuses}
 use Rattle.revising.proofs.Parts.{gate-bytes}
-use Rattle.revising.proofs.Gate.{gate-there, gate-size, gate-refused, gate-end, gate-faulty, gate-places, gate-settling, gate-done}
+use Rattle.revising.proofs.Gate.{gate-there, gate-size, gate-refused, gate-end, gate-refuses, gate-places, gate-settling, gate-done}
 use Rattle.revising.proofs.revise_gate_with.Statement.{statement}
 use Rattle.revising.proofs.revise_gate_with.Tie as tie
 
@@ -171,21 +171,21 @@ settle-requires c κs =
 returns : tie.Need-returns
 returns c =
     let arg = c .before .before .before .before .before .before .before .before .before .args in
-    refuses pairBytes (pairSize limits) _ (arg .sheet .now) (arg .work .now) (arg .work .now) _ (pair-faulty _ _ _ (pair-refused (c .before .before .before .read-pair .ensures) _ (c .before .f .given .1))) refl
+    refuses pairBytes pairSize _ (arg .sheet .now) (arg .work .now) (arg .work .now) _ (pair-refuses _ _ _ (pair-refused (c .before .before .before .read-pair .ensures) _ (c .before .f .given .1))) refl
 
 returns-2 : tie.Need-returns-2
 returns-2 c =
     let k : tie.After-gate = c .before .before .before .before .before .before .before .before .before in
     let x = rw (c .before .f2 .given .1, gate-bytes (read k) (sheet k) (used k) refl (inside k)) at (c .before .before .before .before .before .change-list .ensures) in
-    refuses pairBytes (pairSize limits) _ (sheet k) (k .before .before .before .before .before .before .before .before .args .work .now) (k .before .before .before .before .before .before .before .before .args .work .now) _
+    refuses pairBytes pairSize _ (sheet k) (k .before .before .before .before .before .before .before .before .args .work .now) (k .before .before .before .before .before .before .before .before .args .work .now) _
     (gate-refused (read k) (sheet k) (used k) refl (inside k) (place k) (change k) (record-bytes k) (new k) (c .before .f2 .given .0 .0) x) refl
 
 returns-3 : tie.Need-returns-3
 returns-3 c =
     let n : tie.After-end = c .before .before .before .before .before .before in
     let k : tie.After-gate = g n in
-    refuses pairBytes (pairSize limits) _ (sheet k) (k .before .before .before .before .before .before .before .before .args .work .now) (k .before .before .before .before .before .before .before .before .args .work .now) _
-    (gate-faulty (read k) (sheet k) (used k) refl (inside k) (place k) (change k) (record-bytes k) (new k) (changed n) (k .before .before .before .before .before .before .before .before .pre .2) (c .before .f3 .given .0 .0) (list-refused (c .before .before .before .read-list .ensures) _ (c .before .f3 .given .1))) refl
+    refuses pairBytes pairSize _ (sheet k) (k .before .before .before .before .before .before .before .before .args .work .now) (k .before .before .before .before .before .before .before .before .args .work .now) _
+    (gate-refuses (read k) (sheet k) (used k) refl (inside k) (place k) (change k) (record-bytes k) (new k) (changed n) (k .before .before .before .before .before .before .before .before .pre .2) (c .before .f3 .given .0 .0) (list-refused (c .before .before .before .read-list .ensures) _ (c .before .f3 .given .1))) refl
 
 returns-4 : tie.Need-returns-4
 returns-4 c =

@@ -17,9 +17,9 @@ use Rattle.sheet.specs.Steps.{rulesOf}
 use Rattle.sheet.proofs.Accepted.{PairAccepted, ListAccepted, pair-refused, pair-accepted, list-refused, list-accepted}
 use Rattle.planner.proofs.Finished.{refuses}
 use Rattle.changes.specs.Steps.{changedBytes, ListChanged}
-use Rattle.revising.proofs.Revised.{pair-faulty}
+use Rattle.revising.proofs.Revised.{pair-refuses}
 use Rattle.revising.proofs.Parts.{own-bytes}
-use Rattle.revising.proofs.Own.{own-there, own-size, own-refused, own-end, own-beyond, own-faulty, own-few, own-seven, own-put, own-done}
+use Rattle.revising.proofs.Own.{own-there, own-size, own-refused, own-end, own-beyond, own-refuses, own-few, own-seven, own-put, own-done}
 use Rattle.revising.proofs.revise_own.Statement.{statement}
 use Rattle.revising.proofs.revise_own.Tie as tie
 
@@ -150,7 +150,7 @@ returns c =
     let r : tie.After-renewed = c .before .before in
     let k : tie.After-end = r .before .before .before .before .before in
     let arg = k .before .before .before .before .before .before .before .before .before .before .before .before .before .before .before .before .args in
-    refuses pairBytes (pairSize limits) _ (arg .sheet .now) (arg .work .now) _ TooManyBoxes
+    refuses pairBytes pairSize _ (arg .sheet .now) (arg .work .now) _ TooManyBoxes
     (own-seven (read (g k)) (arg .sheet .now) (arg .used) refl (k .before .before .before .before .before .before .before .before .before .before .before .before .before .before .before .before .pre .1) (arg .place) (arg .change) (arg .new .now) (new (g k)) (changed k) (k .before .before .before .before .before .before .before .before .before .before .before .before .before .before .before .before .pre .2) (renewed r) (omega (arith, c .if1 .taken)))
     (own-beyond (read (g k)) (arg .sheet .now) (arg .used) refl (k .before .before .before .before .before .before .before .before .before .before .before .before .before .before .before .before .pre .1) (arg .place) (arg .change) (arg .new .now) (new (g k)) (changed k) (k .before .before .before .before .before .before .before .before .before .before .before .before .before .before .before .before .pre .2))
 
@@ -173,7 +173,7 @@ same-length-3 c = search needs
 returns-2 : tie.Need-returns-2
 returns-2 c =
     let arg = c .before .before .before .before .before .before .before .before .args in
-    refuses pairBytes (pairSize limits) _ (arg .sheet .now) (arg .work .now) (arg .work .now) _ (pair-faulty _ _ _ (pair-refused (c .before .before .before .read-pair .ensures) _ (c .before .f .given .1))) refl
+    refuses pairBytes pairSize _ (arg .sheet .now) (arg .work .now) (arg .work .now) _ (pair-refuses _ _ _ (pair-refused (c .before .before .before .read-pair .ensures) _ (c .before .f .given .1))) refl
 
 same-length-4 : tie.Need-same-length-4
 same-length-4 c = search needs
@@ -187,7 +187,7 @@ returns-3 c =
     let arg = k .before .before .before .before .before .before .before .args in
     let x = rw (c .before .f2 .given .1, own-bytes (read k) (arg .sheet .now) (arg .used) refl (k .before .before .before .before .before .before .before .pre .1)) at (c .before .before .before .before .before .change-list .ensures) in
     let h = own-refused (read k) (arg .sheet .now) (arg .used) refl (k .before .before .before .before .before .before .before .pre .1) (arg .place) (arg .change) (arg .new .now) (new k) (c .before .f2 .given .0 .0) x in
-    refuses pairBytes (pairSize limits) _ (arg .sheet .now) (arg .work .now) _ _ (h .0) (h .1)
+    refuses pairBytes pairSize _ (arg .sheet .now) (arg .work .now) _ _ (h .0) (h .1)
 
 same-length-6 : tie.Need-same-length-6
 same-length-6 c = search needs
@@ -199,9 +199,9 @@ returns-4 : tie.Need-returns-4
 returns-4 c =
     let k : tie.After-end = c .before .before .before .before .before .before in
     let arg = k .before .before .before .before .before .before .before .before .before .before .before .before .before .before .before .before .args in
-    let fault = list-refused (c .before .before .before .read-list .ensures) (c .before .f3 .given .0 .0) (c .before .f3 .given .1) in
-    refuses pairBytes (pairSize limits) _ (arg .sheet .now) (arg .work .now) _ _
-    (own-faulty (read (g k)) (arg .sheet .now) (arg .used) refl (k .before .before .before .before .before .before .before .before .before .before .before .before .before .before .before .before .pre .1) (arg .place) (arg .change) (arg .new .now) (new (g k)) (changed k) (k .before .before .before .before .before .before .before .before .before .before .before .before .before .before .before .before .pre .2) (c .before .f3 .given .0 .0) fault)
+    let refusal = list-refused (c .before .before .before .read-list .ensures) (c .before .f3 .given .0 .0) (c .before .f3 .given .1) in
+    refuses pairBytes pairSize _ (arg .sheet .now) (arg .work .now) _ _
+    (own-refuses (read (g k)) (arg .sheet .now) (arg .used) refl (k .before .before .before .before .before .before .before .before .before .before .before .before .before .before .before .before .pre .1) (arg .place) (arg .change) (arg .new .now) (new (g k)) (changed k) (k .before .before .before .before .before .before .before .before .before .before .before .before .before .before .before .before .pre .2) (c .before .f3 .given .0 .0) refusal)
     (own-beyond (read (g k)) (arg .sheet .now) (arg .used) refl (k .before .before .before .before .before .before .before .before .before .before .before .before .before .before .before .before .pre .1) (arg .place) (arg .change) (arg .new .now) (new (g k)) (changed k) (k .before .before .before .before .before .before .before .before .before .before .before .before .before .before .before .before .pre .2))
 
 same-length-8 : tie.Need-same-length-8

@@ -3,7 +3,6 @@ use borrow.Author.Needs.{needs}
 use mathlib.Core.Path.{sym}
 use native.Mathlib.Omega.{arith}
 use lib.Seq.{length-take-le}
-use Rattle.policy.specs.Fields.{limits}
 use Rattle.sheet.specs.Pairs.{pairBytes, pairSize}
 use Rattle.planner.proofs.Lengths.{call-length}
 use Rattle.rows.proofs.print_move.Statement.{statement}
@@ -36,7 +35,7 @@ slice-aggregate-print-boxes c = search needs
 print-boxes-requires : tie.Need-print-boxes-requires
 print-boxes-requires c κs =
     let k = c .before .before .before .before .before .before .move-order in
-    let h = call-length pairBytes (pairSize limits) _ _ _ (k .ensures) (search needs) _ (c .before .before .n .given .1) in
+    let h = call-length pairBytes pairSize _ _ _ (k .ensures) (search needs) _ (c .before .before .n .given .1) in
     omega arith
 
 returns : tie.Need-returns

@@ -1,6 +1,6 @@
 -- `read_list` is the section reader with nothing left behind. Assumes nothing.
 use borrow.Author.Needs.{needs}
-use Rattle.sheet.proofs.SectionReader.{list-fault, list-over, list-read}
+use Rattle.sheet.proofs.SectionReader.{list-refusal, list-over, list-read}
 use Rattle.sheet.proofs.read_list.Statement.{statement}
 use Rattle.sheet.proofs.read_list.Tie as tie
 
@@ -17,7 +17,7 @@ returns : tie.Need-returns
 returns c = search (needs, list-over)
 
 returns-2 : tie.Need-returns-2
-returns-2 c = search (needs, list-fault)
+returns-2 c = search (needs, list-refusal)
 
 returns-3 : tie.Need-returns-3
 returns-3 c = search (needs, list-read)

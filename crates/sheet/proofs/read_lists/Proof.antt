@@ -1,7 +1,7 @@
 -- `read_lists` hands the part behind A on to the section reader. Assumes nothing.
 use borrow.Author.Needs.{needs}
 use native.Mathlib.Omega.{arith}
-use Rattle.sheet.proofs.OrderReader.{middle-inside, own-inside, gate-fault, own-fault, lists-read}
+use Rattle.sheet.proofs.OrderReader.{middle-inside, own-inside, gate-refusal, own-refusal, lists-read}
 use Rattle.sheet.proofs.read_lists.Statement.{statement}
 use Rattle.sheet.proofs.read_lists.Tie as tie
 
@@ -43,12 +43,12 @@ add-t16 c =
 returns : tie.Need-returns
 returns c =
     let k = c .before .before .before .read-section in
-    gate-fault {s = c .before .before .before .before .before .args .s .now} {r = k .result} (k .ensures) _ (c .before .f .given .1)
+    gate-refusal {s = c .before .before .before .before .before .args .s .now} {r = k .result} (k .ensures) _ (c .before .f .given .1)
 
 returns-2 : tie.Need-returns-2
 returns-2 c =
     let k = c .before .before .before .before .before .before .before .before .read-section in
-    own-fault {s = c .before .before .before .before .before .before .before .before .before .before .args .s .now} {r = k .result} (k .ensures) _ _ (c .before .before .before .before .before .before .gate .given .1) (c .before .before .before .read-section2 .ensures) _ (c .before .f2 .given .1)
+    own-refusal {s = c .before .before .before .before .before .before .before .before .before .before .args .s .now} {r = k .result} (k .ensures) _ _ (c .before .before .before .before .before .before .gate .given .1) (c .before .before .before .read-section2 .ensures) _ (c .before .f2 .given .1)
 
 returns-3 : tie.Need-returns-3
 returns-3 c =

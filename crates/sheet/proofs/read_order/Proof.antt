@@ -1,6 +1,6 @@
 -- `read_order` is A and B with nothing left behind. Assumes nothing.
 use borrow.Author.Needs.{needs}
-use Rattle.sheet.proofs.OrderReader.{order-fault, order-over, order-read}
+use Rattle.sheet.proofs.OrderReader.{order-refusal, order-over, order-read}
 use Rattle.sheet.proofs.read_order.Statement.{statement}
 use Rattle.sheet.proofs.read_order.Tie as tie
 
@@ -17,7 +17,7 @@ returns : tie.Need-returns
 returns c = search (needs, order-over)
 
 returns-2 : tie.Need-returns-2
-returns-2 c = search (needs, order-fault)
+returns-2 c = search (needs, order-refusal)
 
 returns-3 : tie.Need-returns-3
 returns-3 c = search (needs, order-read)

@@ -1,7 +1,7 @@
 -- `read_pair` answers at each of its tests what the definition gives there. Assumes nothing.
 use borrow.Author.Needs.{needs}
 use native.Mathlib.Omega.{arith}
-use Rattle.sheet.proofs.PairReader.{pair-fault, third-inside, gate-inside, own-within, no-group-count, groups-differ, third-fault, pair-over, pair-read}
+use Rattle.sheet.proofs.PairReader.{pair-refusal, third-inside, gate-inside, own-within, no-group-count, groups-differ, third-refusal, pair-over, pair-read}
 use Rattle.sheet.proofs.read_pair.Statement.{statement}
 use Rattle.sheet.proofs.read_pair.Tie as tie
 
@@ -61,13 +61,13 @@ returns-3 c =
     pair-over (p .before .before .before .before .before .before .before .read-lists .ensures) _ _ _ _ (p .before .before .before .before .before .gate .given .1) (p .before .before .before .if1 .left) _ (p .before .before .count-denies .ensures) _ (p .before .count-at .ensures .0) (omega arith) {t = g .result} (g .ensures) _ _ (c .before .before .boxes .given .1) (c .if3 .taken)
 
 returns-4 : tie.Need-returns-4
-returns-4 c = search (needs, pair-fault)
+returns-4 c = search (needs, pair-refusal)
 
 returns-5 : tie.Need-returns-5
 returns-5 c =
     let p = c .before .before .before .before .before in
     let g = c .before .before .before .read-groups in
-    third-fault (p .before .before .before .before .before .before .before .read-lists .ensures) _ _ _ _ (p .before .before .before .before .before .gate .given .1) (p .before .before .before .if1 .left) _ (p .before .before .count-denies .ensures) _ (p .before .count-at .ensures .0) (omega arith) {t = g .result} (g .ensures) _ (c .before .f2 .given .1)
+    third-refusal (p .before .before .before .before .before .before .before .read-lists .ensures) _ _ _ _ (p .before .before .before .before .before .gate .given .1) (p .before .before .before .if1 .left) _ (p .before .before .count-denies .ensures) _ (p .before .count-at .ensures .0) (omega arith) {t = g .result} (g .ensures) _ (c .before .f2 .given .1)
 
 returns-6 : tie.Need-returns-6
 returns-6 c =
