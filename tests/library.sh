@@ -14,8 +14,8 @@ for test in surface before; do
 done
 tests/x86 run target/surface
 tests/x86 run target/surface++
-tests/x86 run target/before tests/second/before_w2.pair
-tests/x86 run target/before++ tests/second/before_w2.pair
+tests/x86 run target/before tests/second/data/before_w2.pair
+tests/x86 run target/before++ tests/second/data/before_w2.pair
 
 # The desk example: what it prints, its status, the lengths of both lists, and the gate list's bytes; a refused sheet writes none.
 tests/x86 gcc -std=c11 $flags -o target/desk examples/desk.c $library

@@ -5,7 +5,7 @@
  *
  *     gcc -std=c11 -Wall -Wextra -Wpedantic -Werror -Iinclude -o target/before \
  *         tests/c/before.c target/staticlib/libfoldplover.a
- *     target/before tests/second/before_w2.pair
+ *     target/before tests/second/data/before_w2.pair
  */
 #define PROGRAM "before"
 #include "expect.h"

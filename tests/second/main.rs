@@ -4,42 +4,17 @@
 // Without the library there is no driver, and half of the model waits for it.
 #![cfg_attr(not(library), allow(dead_code))]
 
-mod before;
-mod boxes;
-mod calls;
-#[cfg(library)]
-mod cuts;
-mod damage;
 mod draw;
 #[cfg(library)]
-mod drive;
-#[cfg(library)]
-mod lent;
-#[cfg(library)]
-mod library;
-#[cfg(library)]
-mod origins;
-#[cfg(library)]
-mod packets;
-mod plan;
-mod random;
-mod refusals;
-mod rows;
-#[cfg(library)]
-mod runs;
-#[cfg(library)]
-mod scenes;
+mod driver;
+mod model;
 mod selftest;
-mod sheets;
-#[cfg(library)]
-mod step;
-mod stream;
-#[cfg(library)]
-mod tally;
-mod touching;
 
 use std::io::{self, Read, Write};
 use std::process::ExitCode;
+
+use draw::stream;
+use model::{before, calls, plan, sheets};
 
 const USAGE: &str = "\
 second selftest                the model's own tests
@@ -97,9 +72,9 @@ fn main() -> ExitCode {
             None => fail("the stream of cases is not whole"),
         },
         #[cfg(library)]
-        (["drive", _, _], &[count, seed]) => code(drive::run(count, seed, 0)),
+        (["drive", _, _], &[count, seed]) => code(driver::run(count, seed, 0)),
         #[cfg(library)]
-        (["drive", _, _, _], &[count, seed, first]) => code(drive::run(count, seed, first)),
+        (["drive", _, _, _], &[count, seed, first]) => code(driver::run(count, seed, first)),
         _ => fail(USAGE),
     }
 }

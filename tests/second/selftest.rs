@@ -2,15 +2,14 @@
 //! printed example, boxes that touch, a sheet of before W2 and origins worked out by hand, and the
 //! facts about cutting, moving and origins, tried packet by packet over small ranges.
 
-use crate::before;
-use crate::boxes::{self, Action, Origin, Packet, PacketBox, Range, Rule, FIELDS, HIGHEST};
-use crate::calls::{self, encode, Change, Edit, REFUSED};
 use crate::draw;
-use crate::plan;
-use crate::random::Random;
-use crate::rows::{self, full};
-use crate::sheets::{self, PairSheet};
-use crate::touching::{self, TOUCHES};
+use crate::draw::random::Random;
+use crate::draw::touching::{self, TOUCHES};
+use crate::model::boxes::{self, Action, Origin, Packet, PacketBox, Range, Rule, FIELDS, HIGHEST};
+use crate::model::calls::{self, encode, Change, Edit, REFUSED};
+use crate::model::rows::{self, full};
+use crate::model::sheets::{self, PairSheet};
+use crate::model::{before, plan};
 
 const M: u64 = 4_294_967_295;
 
@@ -42,7 +41,7 @@ fn cutting_table() -> Vec<(&'static str, bool)> {
         parts.iter().map(|&(source, destination)| area(source, destination)).collect()
     };
     let two_allows = [allow(source(2, 3)), allow(source(5, 6))];
-    let split = boxes::group(&source(0, 9), &two_allows, crate::refusals::Part::C);
+    let split = boxes::group(&source(0, 9), &two_allows, crate::model::refusals::Part::C);
     vec![
         ("S1", left(outer.clone(), inner.clone()) == areas(&around)),
         ("S2", left(whole.clone(), missed.clone()) == areas(&[((0, 9), (0, 4))])),

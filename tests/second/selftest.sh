@@ -6,19 +6,19 @@
 set -eu
 cd "$(dirname "$0")/../.."
 out=target/mirror
-sources='tests/second/*.rs'
+sources='tests/second/mirror/*.rs'
 mkdir -p $out
-rustc -O --edition 2021 --crate-type staticlib -o $out/libfoldplover.a tests/second/mirror.rs
+rustc -O --edition 2021 --crate-type staticlib -o $out/libfoldplover.a tests/second/lib.rs
 rustc -O --edition 2021 --cfg library -L native=$out -o $out/second tests/second/main.rs
 
 # Each command by itself, so that one that fails is seen.
 $out/second selftest
 $out/second cases 300 4 >$out/cases.bin
 $out/second expected <$out/cases.bin >$out/cases.out
-for made in $out/cases.bin crates/cases/stdin; do cmp $made tests/second/cases.bin; done
-for made in $out/cases.out crates/cases/stdout; do cmp $made tests/second/cases.out; done
+for made in $out/cases.bin crates/cases/stdin; do cmp $made tests/second/data/cases.bin; done
+for made in $out/cases.out crates/cases/stdout; do cmp $made tests/second/data/cases.out; done
 $out/second before <examples/plant.order >$out/before_w2.pair
-cmp $out/before_w2.pair tests/second/before_w2.pair
+cmp $out/before_w2.pair tests/second/data/before_w2.pair
 for order in examples/*.order; do
     $out/second plan <"$order" >$out/plan.out
     cmp $out/plan.out "${order%.order}.out"
@@ -41,7 +41,7 @@ tail -n 1 $out/report.txt | grep '^20000 cases, .* no difference, every answer m
     drive 20000 1
 )
 
-# The names that the sources ask `shows` for: at least one, and no question without one.
+# The names that the mirror asks `shows` for: at least one, and no question without one.
 asked=$(grep -ohE '(fn )?shows\(' $sources | grep -vc fn || true)
 faults=$(grep -ohE 'shows\("[a-z0-9-]+"\)' $sources | cut -d '"' -f 2)
 named=$(echo "$faults" | grep -c . || true)

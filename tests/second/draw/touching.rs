@@ -2,10 +2,10 @@
 //! one value with it there, and meets it in every other field. A test of sharing that leaves out a
 //! field, or is one off in it, answers such a pair wrongly.
 
-use crate::boxes::{Action, PacketBox, Range, Rule, FIELDS, HIGHEST};
+use crate::draw::random::Random;
 use crate::draw::{self, Pair, Shape};
-use crate::random::Random;
-use crate::rows;
+use crate::model::boxes::{Action, PacketBox, Range, Rule, FIELDS, HIGHEST};
+use crate::model::rows;
 
 /// How the allow's range lies to the deny's in the field where they touch.
 #[derive(Clone, Copy, Debug)]

@@ -1,11 +1,12 @@
 //! Runs of edits. What began with an accepted move is held against a fresh move after each edit
 //! (demand 3: the sheet is what moving the edited lists gives, and so is the refusal).
 
-use crate::calls::{self, Answer};
 use crate::draw::{self, DrawnEdit, Kind, Shape};
-use crate::drive::Driver;
-use crate::refusals::Fault;
-use crate::sheets::{self, PairSheet, RECORD_BYTES};
+use crate::driver::Driver;
+use crate::model::boxes::Rule;
+use crate::model::calls::{self, Answer};
+use crate::model::refusals::Fault;
+use crate::model::sheets::{self, PairSheet, RECORD_BYTES};
 
 /// Both lists as records, edited in the plainest way.
 #[derive(Clone)]
@@ -15,7 +16,7 @@ struct Lists {
 
 impl Lists {
     fn of(pair: &PairSheet) -> Lists {
-        let records = |rules: &[crate::boxes::Rule]| rules.iter().map(sheets::rule_bytes).collect();
+        let records = |rules: &[Rule]| rules.iter().map(sheets::rule_bytes).collect();
         Lists { records: [records(&pair.gate), records(&pair.own)] }
     }
 

@@ -1,9 +1,9 @@
 //! The calls on lent buffers: the answer, and what is left in each buffer (01, "Calls", "Numbers
 //! given back"; 02, W1).
 
-use crate::boxes::{self, Group, Origin, Packet, Rule};
-use crate::refusals::{Fault, Part, Refusal};
-use crate::sheets::{self, OrderSheet, PairSheet, SECTION_A, SECTION_B};
+use crate::model::boxes::{self, Group, Origin, Packet, Rule};
+use crate::model::refusals::{Fault, Part, Refusal};
+use crate::model::sheets::{self, OrderSheet, PairSheet, SECTION_A, SECTION_B};
 
 pub const LARGEST_ORDER_SHEET: usize = 8_644;
 pub const LARGEST_PAIR_SHEET: usize = 28_742;

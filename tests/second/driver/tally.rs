@@ -2,9 +2,9 @@
 
 use std::collections::BTreeMap;
 
-use crate::calls::Answer;
-use crate::refusals::{Fault, Part, Refusal};
-use crate::step::{Call, CALLS};
+use crate::driver::step::{Call, CALLS};
+use crate::model::calls::Answer;
+use crate::model::refusals::{Fault, Part, Refusal};
 
 const NUMBERS: u32 = 9;
 const ORIGIN_LISTS: [&str; 2] = ["gate", "own"];

@@ -3,18 +3,15 @@
 // Most calls are made for the comparison in them, not for their answer.
 #![allow(unused_must_use)]
 
-use crate::boxes::{Action, PacketBox, Rule, FIELDS, HIGHEST};
-use crate::calls;
-use crate::cuts;
-use crate::damage::{self, Layout};
+use crate::draw::damage::{self, Layout};
 use crate::draw::{self, Pair, Shape};
-use crate::drive::Driver;
-use crate::origins::{self, Written};
-use crate::packets;
-use crate::rows;
-use crate::runs::{self, Run};
-use crate::sheets::{self, PairSheet};
-use crate::touching;
+use crate::draw::{packets, touching};
+use crate::driver::origins::{self, Written};
+use crate::driver::runs::{self, Run};
+use crate::driver::{cuts, Driver};
+use crate::model::boxes::{Action, PacketBox, Rule, FIELDS, HIGHEST};
+use crate::model::sheets::{self, PairSheet};
+use crate::model::{calls, rows};
 
 /// The first case runs the rows of 01; the others are drawn.
 pub fn play(driver: &mut Driver, case: u64) {
@@ -214,7 +211,7 @@ fn stale_scene(driver: &mut Driver, shape: &Shape) {
         _ => drawn_pair(driver, shape),
     };
     let denies = gate.iter().filter(|rule| !rule.allows()).count();
-    let groups = crate::boxes::groups(&gate).unwrap_or(vec![Vec::new(); denies]);
+    let groups = crate::model::boxes::groups(&gate).unwrap_or(vec![Vec::new(); denies]);
     let mut pair = PairSheet { gate, own, groups };
     for _ in 0..driver.random.within(1, 3) {
         make_stale(driver, shape, &mut pair);

@@ -1,7 +1,7 @@
 //! What `plan` prints for an order sheet (01, "Run by a program").
 
-use crate::boxes::{self, Action, Rule};
-use crate::calls;
+use crate::model::boxes::{self, Action, Rule};
+use crate::model::calls;
 
 pub fn print(order: &[u8]) -> String {
     match calls::moved(order) {

@@ -1,11 +1,11 @@
 //! The origin with one fault each, named as in broken.rs: what a hurried reading of W1 could bring
 //! about.
 
-use crate::boxes::{self, denies, Group, Packet, HIGHEST};
-use crate::broken::{accepted, refused, shows};
-use crate::broken_cut;
-use crate::calls::{self, encode, ORIGIN_NUMBERS, WORK};
-use crate::sheets::{self, PairSheet};
+use crate::mirror::broken::{accepted, refused, shows};
+use crate::mirror::broken_cut;
+use crate::model::boxes::{self, denies, Group, Packet, HIGHEST};
+use crate::model::calls::{self, encode, ORIGIN_NUMBERS, WORK};
+use crate::model::sheets::{self, PairSheet};
 
 pub fn origin(mut packet: Packet, sheet: &[u8], numbers: &mut [u32], work: &mut [u8]) -> u32 {
     let (numbers_before, work_before) = (numbers.to_vec(), work.to_vec());

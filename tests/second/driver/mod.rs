@@ -1,18 +1,26 @@
 //! The driver: every call is done by the model and by the library, and the answer and every byte
 //! of every lent buffer, guards included, have to be the same.
 
+mod cuts;
+mod lent;
+mod library;
+mod origins;
+mod runs;
+mod scenes;
+mod step;
+mod tally;
+
 use std::process::exit;
 
-use crate::boxes::Packet;
-use crate::calls::{self, encode, Answer};
+use crate::draw::random::Random;
 use crate::draw::{DrawnEdit, Kind};
-use crate::lent::{Filling, Lent};
-use crate::library::by_library;
-use crate::random::Random;
-use crate::scenes;
-use crate::sheets;
-use crate::step::{by_model, Call, Step};
-use crate::tally::Tally;
+use crate::model::boxes::Packet;
+use crate::model::calls::{self, encode, Answer};
+use crate::model::sheets;
+use lent::{Filling, Lent};
+use library::by_library;
+use step::{by_model, Call, Step};
+use tally::Tally;
 
 /// From this many cases on, every answer that can occur has to have occurred.
 const ENOUGH_CASES: u64 = 10_000;

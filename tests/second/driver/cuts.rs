@@ -1,17 +1,15 @@
 //! The cut of 02, W2: boxes that touch, and sheets moved under the rule before it. What is demanded
 //! here is asked of the library itself, by its own moves.
 
-use crate::before;
-use crate::boxes::{self, Action, PacketBox, Rule, FIELDS};
-use crate::calls::Answer;
+use crate::draw::touching::{self, TOUCHES};
 use crate::draw::{DrawnEdit, Kind, Pair, Shape};
-use crate::drive::Driver;
-use crate::origins;
-use crate::refusals::Refusal;
-use crate::rows::{self, full};
-use crate::runs;
-use crate::sheets::{self, PairSheet};
-use crate::touching::{self, TOUCHES};
+use crate::driver::{origins, runs, Driver};
+use crate::model::before;
+use crate::model::boxes::{self, Action, PacketBox, Rule, FIELDS};
+use crate::model::calls::Answer;
+use crate::model::refusals::Refusal;
+use crate::model::rows::{self, full};
+use crate::model::sheets::{self, PairSheet};
 
 /// The line of the boundary table that W2 changes.
 pub fn hold_s2(driver: &mut Driver) {

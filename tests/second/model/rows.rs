@@ -1,8 +1,8 @@
 //! Rows of the boundary table that are not theorems, with the answers that it gives; and the boxes
 //! of its line S2, which 02, W2 changes.
 
-use crate::boxes::{Action, PacketBox, Range, Rule};
-use crate::sheets;
+use crate::model::boxes::{Action, PacketBox, Range, Rule};
+use crate::model::sheets;
 
 pub struct Row {
     pub name: &'static str,

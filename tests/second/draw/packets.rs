@@ -1,7 +1,7 @@
 //! Packets at every corner of the rules they are looked up in.
 
-use crate::boxes::{Packet, PacketBox, Range, Rule, FIELDS, HIGHEST};
-use crate::random::Random;
+use crate::draw::random::Random;
+use crate::model::boxes::{Packet, PacketBox, Range, Rule, FIELDS, HIGHEST};
 
 const LARGEST_NUMBER: u64 = 4_294_967_295;
 

@@ -1,7 +1,7 @@
 //! The same call done by the library, through the C surface.
 
-use crate::lent::Lent;
-use crate::step::Call;
+use crate::driver::lent::Lent;
+use crate::driver::step::Call;
 
 #[link(name = "foldplover", kind = "static")]
 extern "C" {

@@ -1,8 +1,8 @@
 //! The cut as it was before 02, W2: 000's printed algorithm. No call follows it any more; it makes
 //! the sheets that were moved then, to be given to the calls of now.
 
-use crate::boxes::{self, Group, PacketBox, Rule, FIELDS, MOST_PIECES};
-use crate::sheets::{PairSheet, MOST_LIST_RULES};
+use crate::model::boxes::{self, Group, PacketBox, Rule, FIELDS, MOST_PIECES};
+use crate::model::sheets::{PairSheet, MOST_LIST_RULES};
 
 /// Field by field the part below the allow's range, then the part above it, going on with what is
 /// shared; where a field shares nothing, one piece with the box's whole range there, and the end.

@@ -1,22 +1,15 @@
 //! The C surface on top of the model, to try the driver on: as it is, the driver finds nothing;
 //! with FOLDPLOVER_BROKEN set to the name of a fault (see broken.rs, broken_cut.rs and
-//! broken_origin.rs), it has to find that fault. Built as a static library for `selftest.sh` only.
+//! broken_origin.rs), it has to find that fault.
 
-// The model has more than these calls need.
-#![allow(dead_code)]
-
-mod before;
-mod boxes;
 mod broken;
 mod broken_cut;
 mod broken_origin;
-mod calls;
-mod refusals;
-mod sheets;
 
-use broken::shows;
-use calls::{Change, Edit};
 use std::slice::{from_raw_parts, from_raw_parts_mut};
+
+use crate::model::calls::{Change, Edit};
+use broken::shows;
 
 /// # Safety
 /// Every pointer of every call is to as many bytes or numbers as the length beside it says.

@@ -1,10 +1,15 @@
 //! Drawn rules, pairs and edits: small ranges, so that boxes overlap a lot.
 
-use crate::boxes::{self, Action, PacketBox, Range, Rule, FIELDS, HIGHEST};
-use crate::calls::{Change, Edit};
-use crate::random::Random;
-use crate::rows;
-use crate::sheets;
+pub mod damage;
+pub mod packets;
+pub mod random;
+pub mod stream;
+pub mod touching;
+
+use crate::model::boxes::{self, Action, PacketBox, Range, Rule, FIELDS, HIGHEST};
+use crate::model::calls::{Change, Edit};
+use crate::model::{rows, sheets};
+use random::Random;
 
 /// How the boxes of one case look: values below `span`, some fields full.
 pub struct Shape {

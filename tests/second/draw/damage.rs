@@ -1,9 +1,9 @@
 //! Damaged sheets and lists: every kind of fault, in every place it can stand.
 
-use crate::boxes::FIELDS;
 use crate::draw;
-use crate::random::Random;
-use crate::sheets::{self, BOX_BYTES, COUNT_BYTES, RECORD_BYTES};
+use crate::draw::random::Random;
+use crate::model::boxes::FIELDS;
+use crate::model::sheets::{self, BOX_BYTES, COUNT_BYTES, RECORD_BYTES};
 
 /// Where the counts of sections, the counts of groups, the records and the boxes begin.
 #[derive(Default)]

@@ -1,6 +1,6 @@
 //! One lent buffer, between guard bytes that no call may change.
 
-use crate::random::Random;
+use crate::draw::random::Random;
 
 const GUARD: usize = 64;
 const FILLING: usize = 1 << 17;

@@ -1,13 +1,13 @@
 //! The stream of cases for the test program written in the product's language, and the lines
-//! that program has to print for it. README.md beside this file gives the format.
+//! that program has to print for it. README.md of tests/second gives the format.
 
-use crate::boxes::Action;
-use crate::calls::{self, encode, REFUSED};
-use crate::damage::{self, Layout};
+use crate::draw::damage::{self, Layout};
+use crate::draw::random::Random;
 use crate::draw::{self, DrawnEdit, Kind, Pair, Shape};
-use crate::random::Random;
-use crate::rows;
-use crate::sheets::{self, number_bytes, RECORD_BYTES};
+use crate::model::boxes::Action;
+use crate::model::calls::{self, encode, REFUSED};
+use crate::model::rows;
+use crate::model::sheets::{self, number_bytes, RECORD_BYTES};
 
 const MOST_EDITS: u64 = 12;
 

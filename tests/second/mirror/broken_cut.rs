@@ -1,11 +1,11 @@
 //! The cut with one fault each, named as in broken.rs: what a hurried reading of W2 could bring
 //! about, in the cut itself and in the calls that meet sheets of before it.
 
-use crate::before;
-use crate::boxes::{denies, PacketBox, Range, FIELDS};
-use crate::broken::{accepted, name, refused, shows, total, unlimited};
-use crate::calls::{self, Change, Edit, WORK};
-use crate::sheets::{self, PairSheet};
+use crate::mirror::broken::{accepted, name, refused, shows, total, unlimited};
+use crate::model::before;
+use crate::model::boxes::{denies, PacketBox, Range, FIELDS};
+use crate::model::calls::{self, Change, Edit, WORK};
+use crate::model::sheets::{self, PairSheet};
 
 /// Cuts a moved pair anew if the fault is one of the cut's. By a name that begins so and is no
 /// fault's, the pair is cut as it should be.

@@ -1,8 +1,8 @@
 //! One call with everything handed over, done by the model.
 
-use crate::boxes::Packet;
-use crate::calls::{self, Answer, Change, Edit};
-use crate::lent::Lent;
+use crate::driver::lent::Lent;
+use crate::model::boxes::Packet;
+use crate::model::calls::{self, Answer, Change, Edit};
 
 #[derive(Clone, Copy, PartialEq, Eq, PartialOrd, Ord, Debug)]
 pub enum Call {

@@ -1,13 +1,13 @@
 //! Whose rule it was (02, W1): packets to ask for, and origins on sheets that the check accepts,
 //! held against lookups in the lists that the library itself writes.
 
-use crate::boxes::{Packet, PacketBox};
-use crate::calls::{encode, Answer, REFUSED};
-use crate::drive::Driver;
-use crate::packets;
-use crate::random::Random;
-use crate::runs::is_about_buffers;
-use crate::sheets::{self, PairSheet, COUNT_BYTES, RECORD_BYTES};
+use crate::draw::packets;
+use crate::draw::random::Random;
+use crate::driver::runs::is_about_buffers;
+use crate::driver::Driver;
+use crate::model::boxes::{Packet, PacketBox};
+use crate::model::calls::{encode, Answer, REFUSED};
+use crate::model::sheets::{self, PairSheet, COUNT_BYTES, RECORD_BYTES};
 
 /// A packet for a sheet that need not read well.
 pub fn packet_for(random: &mut Random, sheet: &[u8]) -> Packet {

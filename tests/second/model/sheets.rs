@@ -1,7 +1,7 @@
 //! Records, sheets and lists as bytes: 01, "Sheets", read in the order of "Numbers given back".
 
-use crate::boxes::{Action, Group, PacketBox, Range, Rule, FIELDS, HIGHEST};
-use crate::refusals::{Fault, Part, Refusal};
+use crate::model::boxes::{Action, Group, PacketBox, Range, Rule, FIELDS, HIGHEST};
+use crate::model::refusals::{Fault, Part, Refusal};
 
 pub const WIDTH: [usize; FIELDS] = [4, 4, 2, 2, 1];
 pub const COUNT_BYTES: usize = 2;

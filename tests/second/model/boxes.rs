@@ -5,7 +5,7 @@
 //! difference comes near an end, lists are vectors, and what two boxes share is worked out as a box
 //! of its own before anything is cut.
 
-use crate::refusals::{Fault, Part, Refusal};
+use crate::model::refusals::{Fault, Part, Refusal};
 
 pub const FIELDS: usize = 5;
 pub const HIGHEST: [u64; FIELDS] = [4_294_967_295, 4_294_967_295, 65_535, 65_535, 255];

@@ -3,11 +3,11 @@
 
 use std::sync::OnceLock;
 
-use crate::before;
-use crate::boxes::{self, Group, Packet, PacketBox, Rule, HIGHEST};
-use crate::broken_cut;
-use crate::calls::{self, encode, Change, Edit, LARGEST_PAIR_SHEET, REFUSED, WORK};
-use crate::sheets::{self, PairSheet, RECORD_BYTES};
+use crate::mirror::broken_cut;
+use crate::model::before;
+use crate::model::boxes::{self, Group, Packet, PacketBox, Rule, HIGHEST};
+use crate::model::calls::{self, encode, Change, Edit, LARGEST_PAIR_SHEET, REFUSED, WORK};
+use crate::model::sheets::{self, PairSheet, RECORD_BYTES};
 
 /// The fault's name; empty where there is none.
 pub fn name() -> &'static str {
