@@ -57,7 +57,7 @@ int main(int count, char **words) {
     uint32_t used = foldplover_move(order, length, sheet, sizeof sheet, work, sizeof work);
     if (used >= FOLDPLOVER_REFUSED) return printf("refused %u\n", (unsigned)(used - FOLDPLOVER_REFUSED)), 1;
     uint32_t answer = foldplover_origin(p[0], p[1], p[2], p[3], p[4], sheet, used, found, FOLDPLOVER_ORIGIN, work, sizeof work);
-    if (answer == FOLDPLOVER_REFUSED + FOLDPLOVER_INCOMPLETE) return printf("no rule: a number is above its field's highest\n"), 1;
+    if (answer == FOLDPLOVER_REFUSED + FOLDPLOVER_NOT_COMPLETE) return printf("no rule: a number is above its field's highest\n"), 1;
     if (answer >= FOLDPLOVER_REFUSED) return printf("refused %u\n", (unsigned)(answer - FOLDPLOVER_REFUSED)), 1;
     const char *verdict = answer % 2 == 1 ? "forwarded" : "dropped";
     printf("%s by %s rule %u (counted from 0)", verdict, found[0] == FOLDPLOVER_A ? "gate" : "own", (unsigned)found[1]);

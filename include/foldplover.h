@@ -11,7 +11,7 @@
  * Every call answers one number: a value below FOLDPLOVER_REFUSED, or FOLDPLOVER_REFUSED plus one
  * of the refusals below. A refused call leaves every output as it was, the pair sheet of a refused
  * edit included. Calls that borrow work leave its first FOLDPLOVER_WORK bytes zero, accepted or
- * refused; only FOLDPLOVER_SHORT leaves it untouched, since that answer touches nothing.
+ * refused; only FOLDPLOVER_BUFFER_SHORT leaves it untouched, since that answer touches nothing.
  *
  * Bytes
  *
@@ -32,12 +32,13 @@
  *
  * In what order faults are found
  *
- * FOLDPLOVER_SHORT comes before all else. Then the input is read byte after byte, and whatever is
- * wrong first is the answer. Reading a list, section A or section B: count there (MISSING) and
- * within its limits (COUNT), all records there (MISSING), each record in turn (BAD_RULE), last rule
- * full (INCOMPLETE). Reading the groups: their count there (MISSING) and right (GROUPS); for each
- * group its count there (MISSING), boxes so far and own rules not over 1,024 (TOO_MANY_BOXES), its
- * boxes there (MISSING), each box (BAD_RULE). Where the input should end: nothing more (MISSING).
+ * FOLDPLOVER_BUFFER_SHORT comes before all else. Then the input is read byte after byte, and
+ * whatever is wrong first is the answer. Reading a list, section A or section B: count there
+ * (LENGTH_WRONG) and within its limits (COUNT_OUTSIDE), all records there (LENGTH_WRONG), each
+ * record in turn (RULE_BAD), last rule full (NOT_COMPLETE). Reading the groups: their count there
+ * (LENGTH_WRONG) and right (GROUPS_DIFFER); for each group its count there (LENGTH_WRONG), boxes so
+ * far and own rules not over 1,024 (TOO_MANY_BOXES), its boxes there (LENGTH_WRONG), each box
+ * (RULE_BAD). Where the input should end: nothing more (LENGTH_WRONG).
  *
  * At the calls 'reading {2, 3, 4, 5}' stands for this: which of these numbers is given depends on
  * where the first fault lies in the input, not on the order in which they are written.
@@ -77,14 +78,14 @@ extern "C" {
 #define FOLDPLOVER_REFUSED 65536u
 
 enum foldplover_refusal {
-    FOLDPLOVER_SHORT = 1,           /* a buffer below its least length, or used beyond its buffer */
-    FOLDPLOVER_COUNT = 2,           /* a list without a rule, or with more than it may have */
-    FOLDPLOVER_MISSING = 3,         /* input too short or too long; a record not of 27 bytes */
-    FOLDPLOVER_BAD_RULE = 4,        /* a range or an action that cannot be */
-    FOLDPLOVER_INCOMPLETE = 5,      /* no full rule at the end; no rule has the packet */
+    FOLDPLOVER_BUFFER_SHORT = 1,    /* a buffer below its least length, or used beyond its buffer */
+    FOLDPLOVER_COUNT_OUTSIDE = 2,   /* a list without a rule, or with more than it may have */
+    FOLDPLOVER_LENGTH_WRONG = 3,    /* input too short or too long; a record not of 27 bytes */
+    FOLDPLOVER_RULE_BAD = 4,        /* a range or an action that cannot be */
+    FOLDPLOVER_NOT_COMPLETE = 5,    /* no full rule at the end; no rule has the packet */
     FOLDPLOVER_TOO_MANY_PIECES = 6, /* over 1,024 pieces of one deny rule after some allow */
     FOLDPLOVER_TOO_MANY_BOXES = 7,  /* boxes and own rules together exceed 1,024 */
-    FOLDPLOVER_GROUPS = 8,          /* wrong number of groups; groups not what A gives */
+    FOLDPLOVER_GROUPS_DIFFER = 8,   /* wrong number of groups; groups not what A gives */
     FOLDPLOVER_NO_PLACE = 9         /* no such place, or a list neither A nor B */
 };
 

@@ -45,7 +45,7 @@ static uint32_t check(const uint8_t *bytes, size_t length)
 /* What every refusal of these calls leaves: the work zero, and nothing written. */
 static void expect_refused(const char *what, uint32_t got)
 {
-    expect(what, got, REFUSAL(FOLDPLOVER_GROUPS));
+    expect(what, got, REFUSAL(FOLDPLOVER_GROUPS_DIFFER));
     expect_all(what, list, UNTOUCHED, sizeof list);
     expect_all(what, work, 0, FOLDPLOVER_WORK);
     expect_all(what, work + FOLDPLOVER_WORK, UNTOUCHED, 1);
@@ -94,7 +94,7 @@ static void expect_edited(const char *what, uint32_t got, size_t length)
     expect_bytes(what, sheet, wanted, length);
     expect_all(what, sheet + length, 0, FOLDPLOVER_PAIR_SHEET - length);
     expect_all(what, sheet + FOLDPLOVER_PAIR_SHEET, UNTOUCHED, 1);
-    expect(what, check(sheet, length), REFUSAL(FOLDPLOVER_GROUPS));
+    expect(what, check(sheet, length), REFUSAL(FOLDPLOVER_GROUPS_DIFFER));
 }
 
 /* The first own rule goes; A and section C stay byte for byte. */

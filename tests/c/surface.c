@@ -83,24 +83,24 @@ static void test_move_refusals(void)
     expect("short sheet",
            foldplover_move(dairy, ORDER_LENGTH, sheet, FOLDPLOVER_PAIR_SHEET - 1, work,
                            sizeof work),
-           REFUSAL(FOLDPLOVER_SHORT));
+           REFUSAL(FOLDPLOVER_BUFFER_SHORT));
     expect("short work",
            foldplover_move(dairy, ORDER_LENGTH, sheet, sizeof sheet, work, FOLDPLOVER_WORK - 1),
-           REFUSAL(FOLDPLOVER_SHORT));
+           REFUSAL(FOLDPLOVER_BUFFER_SHORT));
     expect_all("work after 1", work, UNTOUCHED, sizeof work);
     memcpy(bytes, dairy, ORDER_LENGTH);
     bytes[ORDER_LENGTH] = 0;
-    expect("left over", move(bytes, ORDER_LENGTH + 1), REFUSAL(FOLDPLOVER_MISSING));
-    expect("missing", move(bytes, ORDER_LENGTH - 1), REFUSAL(FOLDPLOVER_MISSING));
-    expect("nothing", move(bytes, 0), REFUSAL(FOLDPLOVER_MISSING));
+    expect("left over", move(bytes, ORDER_LENGTH + 1), REFUSAL(FOLDPLOVER_LENGTH_WRONG));
+    expect("missing", move(bytes, ORDER_LENGTH - 1), REFUSAL(FOLDPLOVER_LENGTH_WRONG));
+    expect("nothing", move(bytes, 0), REFUSAL(FOLDPLOVER_LENGTH_WRONG));
     bytes[1] = 0;
-    expect("no gate rule", move(bytes, ORDER_LENGTH), REFUSAL(FOLDPLOVER_COUNT));
+    expect("no gate rule", move(bytes, ORDER_LENGTH), REFUSAL(FOLDPLOVER_COUNT_OUTSIDE));
     bytes[1] = 3;
     bytes[2 + 26] = 2;
-    expect("action 2", move(bytes, ORDER_LENGTH), REFUSAL(FOLDPLOVER_BAD_RULE));
+    expect("action 2", move(bytes, ORDER_LENGTH), REFUSAL(FOLDPLOVER_RULE_BAD));
     bytes[2 + 26] = 1;
     bytes[ORDER_LENGTH - 2] = 0xfe;
-    expect("protocol 255 missing", move(bytes, ORDER_LENGTH), REFUSAL(FOLDPLOVER_INCOMPLETE));
+    expect("protocol 255 missing", move(bytes, ORDER_LENGTH), REFUSAL(FOLDPLOVER_NOT_COMPLETE));
     expect_all("refused sheet", sheet, UNTOUCHED, sizeof sheet);
     expect_all("work after refusals", work, 0, FOLDPLOVER_WORK);
 }
@@ -182,13 +182,13 @@ static void test_check(void)
 {
     move_dairy();
     expect("check", check(PAIR_LENGTH), 0);
-    expect("check with a byte more", check(PAIR_LENGTH + 1), REFUSAL(FOLDPLOVER_MISSING));
+    expect("check with a byte more", check(PAIR_LENGTH + 1), REFUSAL(FOLDPLOVER_LENGTH_WRONG));
     sheet[PAIR_LENGTH - 1] = 7;
-    expect("check of another box", check(PAIR_LENGTH), REFUSAL(FOLDPLOVER_GROUPS));
+    expect("check of another box", check(PAIR_LENGTH), REFUSAL(FOLDPLOVER_GROUPS_DIFFER));
     sheet[ORDER_LENGTH + 1] = 2;
-    expect("check of two groups", check(PAIR_LENGTH), REFUSAL(FOLDPLOVER_GROUPS));
+    expect("check of two groups", check(PAIR_LENGTH), REFUSAL(FOLDPLOVER_GROUPS_DIFFER));
     expect("check, short work", foldplover_check(sheet, PAIR_LENGTH, work, FOLDPLOVER_WORK - 1),
-           REFUSAL(FOLDPLOVER_SHORT));
+           REFUSAL(FOLDPLOVER_BUFFER_SHORT));
 }
 
 static void test_gate_list(void)
@@ -198,7 +198,7 @@ static void test_gate_list(void)
     expect("short gate list",
            foldplover_gate_list(sheet, PAIR_LENGTH, list, FOLDPLOVER_GATE_LIST - 1, work,
                                 sizeof work),
-           REFUSAL(FOLDPLOVER_SHORT));
+           REFUSAL(FOLDPLOVER_BUFFER_SHORT));
     expect("gate list",
            foldplover_gate_list(sheet, PAIR_LENGTH, list, sizeof list, work, sizeof work),
            FOLDPLOVER_GATE_LIST);
@@ -229,7 +229,7 @@ static void test_cell_list(void)
     sheet[PAIR_LENGTH - 1] = 7;
     expect("cell list of another box",
            foldplover_cell_list(sheet, PAIR_LENGTH, list, sizeof list, work, sizeof work),
-           REFUSAL(FOLDPLOVER_GROUPS));
+           REFUSAL(FOLDPLOVER_GROUPS_DIFFER));
 }
 
 static uint32_t lookup(uint32_t dst, uint32_t dport, uint32_t proto)
@@ -246,14 +246,15 @@ static void test_lookup(void)
     expect("destination port 80", lookup(15, 80, 6), 9);
     expect("destination 30", lookup(30, 80, 6), 9);
     expect("protocol 17", lookup(15, 81, 17), 9);
-    expect("protocol 256", lookup(15, 80, 256), REFUSAL(FOLDPLOVER_INCOMPLETE));
-    expect("port 65,536", lookup(15, 65536, 6), REFUSAL(FOLDPLOVER_INCOMPLETE));
-    expect("one byte", foldplover_lookup(1, 9, 5, 80, 6, list, 1), REFUSAL(FOLDPLOVER_MISSING));
+    expect("protocol 256", lookup(15, 80, 256), REFUSAL(FOLDPLOVER_NOT_COMPLETE));
+    expect("port 65,536", lookup(15, 65536, 6), REFUSAL(FOLDPLOVER_NOT_COMPLETE));
+    expect("one byte", foldplover_lookup(1, 9, 5, 80, 6, list, 1),
+           REFUSAL(FOLDPLOVER_LENGTH_WRONG));
     list[2 + RECORD + 26] = 2;
     expect("before the bad rule", lookup(9, 80, 6), 0);
-    expect("at the bad rule", lookup(20, 80, 6), REFUSAL(FOLDPLOVER_BAD_RULE));
+    expect("at the bad rule", lookup(20, 80, 6), REFUSAL(FOLDPLOVER_RULE_BAD));
     list[1] = 0;
-    expect("no rule", lookup(9, 80, 6), REFUSAL(FOLDPLOVER_COUNT));
+    expect("no rule", lookup(9, 80, 6), REFUSAL(FOLDPLOVER_COUNT_OUTSIDE));
 }
 
 static uint32_t lookup_table(uint32_t dst, uint32_t dport, uint32_t proto,
@@ -279,26 +280,27 @@ static void test_lookup_table(void)
     expect("table: destination 20", lookup_table(20, 80, 6, rules, 5), 2);
     expect("table: destination port 81", lookup_table(15, 81, 6, rules, 5), 6);
     expect("table: destination port 80", lookup_table(15, 80, 6, rules, 5), 9);
-    expect("table: four rules", lookup_table(15, 80, 6, rules, 4), REFUSAL(FOLDPLOVER_INCOMPLETE));
+    expect("table: four rules", lookup_table(15, 80, 6, rules, 4),
+           REFUSAL(FOLDPLOVER_NOT_COMPLETE));
     expect("table: protocol 256", lookup_table(15, 80, 256, rules, 5),
-           REFUSAL(FOLDPLOVER_INCOMPLETE));
+           REFUSAL(FOLDPLOVER_NOT_COMPLETE));
     expect("table: port 65,536", lookup_table(15, 65536, 6, rules, 5),
-           REFUSAL(FOLDPLOVER_INCOMPLETE));
-    expect("table: no rule", lookup_table(9, 80, 6, rules, 0), REFUSAL(FOLDPLOVER_COUNT));
+           REFUSAL(FOLDPLOVER_NOT_COMPLETE));
+    expect("table: no rule", lookup_table(9, 80, 6, rules, 0), REFUSAL(FOLDPLOVER_COUNT_OUTSIDE));
     full = rules[4];
     rules[1].high[2] = 65536;
     expect("table: before port 65,536", lookup_table(9, 80, 6, rules, 5), 0);
     expect("table: at port 65,536", lookup_table(20, 80, 6, rules, 5),
-           REFUSAL(FOLDPLOVER_BAD_RULE));
+           REFUSAL(FOLDPLOVER_RULE_BAD));
     rules[1] = full;
     rules[1].action = 2;
     expect("table: before action 2", lookup_table(9, 80, 6, rules, 5), 0);
-    expect("table: at action 2", lookup_table(20, 80, 6, rules, 5), REFUSAL(FOLDPLOVER_BAD_RULE));
+    expect("table: at action 2", lookup_table(20, 80, 6, rules, 5), REFUSAL(FOLDPLOVER_RULE_BAD));
     rules[1] = full;
     rules[1].low[0] = 8;
     rules[1].high[0] = 7;
     expect("table: low above high", lookup_table(20, 80, 6, rules, 5),
-           REFUSAL(FOLDPLOVER_BAD_RULE));
+           REFUSAL(FOLDPLOVER_RULE_BAD));
     for (place = 0; place <= FOLDPLOVER_MOST_RULES; place++) {
         rules[place] = full;
         rules[place].high[4] = 5;
@@ -307,7 +309,7 @@ static void test_lookup_table(void)
     expect("table: the last of 1,024", lookup_table(9, 80, 6, rules, FOLDPLOVER_MOST_RULES),
            2 * (FOLDPLOVER_MOST_RULES - 1) + 1);
     expect("table: 1,025 rules", lookup_table(9, 80, 6, rules, FOLDPLOVER_MOST_RULES + 1),
-           REFUSAL(FOLDPLOVER_COUNT));
+           REFUSAL(FOLDPLOVER_COUNT_OUTSIDE));
 }
 
 static uint32_t insert(uint32_t which, size_t place, const uint8_t *record, size_t length)
@@ -441,26 +443,27 @@ static void test_origin_refusals(void)
 {
     move_dairy();
     expect_origin_refused("origin: protocol 256", origin(15, 80, 256, PAIR_LENGTH),
-                          FOLDPLOVER_INCOMPLETE);
+                          FOLDPLOVER_NOT_COMPLETE);
     expect_all("work after 5", work, 0, FOLDPLOVER_WORK);
     expect_origin_refused("origin: port 65,536", origin(15, 65536, 6, PAIR_LENGTH),
-                          FOLDPLOVER_INCOMPLETE);
+                          FOLDPLOVER_NOT_COMPLETE);
     expect_origin_refused("origin: a byte more", origin(9, 80, 6, PAIR_LENGTH + 1),
-                          FOLDPLOVER_MISSING);
+                          FOLDPLOVER_LENGTH_WRONG);
     sheet[PAIR_LENGTH - 1] = 7;
-    expect_origin_refused("origin: another box", origin(9, 80, 6, PAIR_LENGTH), FOLDPLOVER_GROUPS);
+    expect_origin_refused("origin: another box", origin(9, 80, 6, PAIR_LENGTH),
+                          FOLDPLOVER_GROUPS_DIFFER);
     expect_origin_refused("origin: another box, protocol 256", origin(9, 80, 256, PAIR_LENGTH),
-                          FOLDPLOVER_GROUPS);
+                          FOLDPLOVER_GROUPS_DIFFER);
     expect_all("work after 8", work, 0, FOLDPLOVER_WORK);
     forget_origin();
     expect_origin_refused("origin: two numbers",
                           foldplover_origin(1, 9, 5, 80, 6, sheet, PAIR_LENGTH, found, 2, work,
                                             sizeof work),
-                          FOLDPLOVER_SHORT);
+                          FOLDPLOVER_BUFFER_SHORT);
     expect_origin_refused("origin: short work",
                           foldplover_origin(1, 9, 5, 80, 6, sheet, PAIR_LENGTH, found, 3, work,
                                             FOLDPLOVER_WORK - 1),
-                          FOLDPLOVER_SHORT);
+                          FOLDPLOVER_BUFFER_SHORT);
     expect_all("work after origin's 1", work, UNTOUCHED, sizeof work);
 }
 
@@ -474,27 +477,28 @@ static void test_edit_refusals(void)
     uint8_t record[RECORD];
     memcpy(record, full_allow, RECORD);
     move_dairy();
-    expect("stated length", remove_rule(SIZE_MAX, FOLDPLOVER_A, 0), REFUSAL(FOLDPLOVER_SHORT));
+    expect("stated length", remove_rule(SIZE_MAX, FOLDPLOVER_A, 0),
+           REFUSAL(FOLDPLOVER_BUFFER_SHORT));
     expect("stated one short", remove_rule(PAIR_LENGTH - 1, FOLDPLOVER_A, 0),
-           REFUSAL(FOLDPLOVER_MISSING));
+           REFUSAL(FOLDPLOVER_LENGTH_WRONG));
     expect("place 3", remove_rule(PAIR_LENGTH, FOLDPLOVER_A, 3), REFUSAL(FOLDPLOVER_NO_PLACE));
     expect("largest place", remove_rule(PAIR_LENGTH, FOLDPLOVER_B, SIZE_MAX),
            REFUSAL(FOLDPLOVER_NO_PLACE));
     expect("list 2", remove_rule(PAIR_LENGTH, 2, 0), REFUSAL(FOLDPLOVER_NO_PLACE));
     expect("the only own rule", remove_rule(PAIR_LENGTH, FOLDPLOVER_B, 0),
-           REFUSAL(FOLDPLOVER_COUNT));
+           REFUSAL(FOLDPLOVER_COUNT_OUTSIDE));
     expect("the last gate rule", remove_rule(PAIR_LENGTH, FOLDPLOVER_A, 2),
-           REFUSAL(FOLDPLOVER_INCOMPLETE));
+           REFUSAL(FOLDPLOVER_NOT_COMPLETE));
     expect("place 4", insert(FOLDPLOVER_A, 4, record, 26), REFUSAL(FOLDPLOVER_NO_PLACE));
-    expect("26 bytes", insert(FOLDPLOVER_A, 3, record, 26), REFUSAL(FOLDPLOVER_MISSING));
+    expect("26 bytes", insert(FOLDPLOVER_A, 3, record, 26), REFUSAL(FOLDPLOVER_LENGTH_WRONG));
     record[26] = 2;
-    expect("action 2", insert(FOLDPLOVER_A, 3, record, RECORD), REFUSAL(FOLDPLOVER_BAD_RULE));
+    expect("action 2", insert(FOLDPLOVER_A, 3, record, RECORD), REFUSAL(FOLDPLOVER_RULE_BAD));
     expect("not full at the end", insert(FOLDPLOVER_A, 3, dairy + 2, RECORD),
-           REFUSAL(FOLDPLOVER_INCOMPLETE));
+           REFUSAL(FOLDPLOVER_NOT_COMPLETE));
     expect("action 2 in a replace",
            foldplover_replace(sheet, sizeof sheet, PAIR_LENGTH, FOLDPLOVER_B, 0, record, RECORD,
                               work, sizeof work),
-           REFUSAL(FOLDPLOVER_BAD_RULE));
+           REFUSAL(FOLDPLOVER_RULE_BAD));
     expect_dairy("sheet after refused edits");
     expect_all("work after refused edits", work, 0, FOLDPLOVER_WORK);
 }
@@ -508,7 +512,7 @@ static void test_split_and_join(void)
     memset(order, UNTOUCHED, sizeof order);
     expect("short B list",
            foldplover_split(dairy, ORDER_LENGTH, a, sizeof a, b, FOLDPLOVER_B_LIST - 1),
-           REFUSAL(FOLDPLOVER_SHORT));
+           REFUSAL(FOLDPLOVER_BUFFER_SHORT));
     expect("split", foldplover_split(dairy, ORDER_LENGTH, a, sizeof a, b, sizeof b), A_LENGTH);
     expect_bytes("A list", a, dairy, A_LENGTH);
     expect_all("behind the A list", a + A_LENGTH, 0, FOLDPLOVER_A_LIST - A_LENGTH);
@@ -518,7 +522,7 @@ static void test_split_and_join(void)
     expect_all("beyond 6,914", b + FOLDPLOVER_B_LIST, UNTOUCHED, 1);
     expect("join with a byte left over",
            foldplover_join(a, A_LENGTH + 1, b, 29, order, sizeof order),
-           REFUSAL(FOLDPLOVER_MISSING));
+           REFUSAL(FOLDPLOVER_LENGTH_WRONG));
     expect_all("order sheet after a refusal", order, UNTOUCHED, sizeof order);
     expect("join", foldplover_join(a, A_LENGTH, b, 29, order, sizeof order), ORDER_LENGTH);
     expect_bytes("joined sheet", order, dairy, ORDER_LENGTH);
@@ -537,8 +541,9 @@ static void test_record(void)
     numbers[FOLDPLOVER_NUMBERS] = 5;
     record[RECORD] = UNTOUCHED;
     expect("ten numbers", foldplover_rule(dairy + 2, RECORD, numbers, 10),
-           REFUSAL(FOLDPLOVER_SHORT));
-    expect("26 bytes", foldplover_rule(dairy + 2, 26, numbers, 12), REFUSAL(FOLDPLOVER_MISSING));
+           REFUSAL(FOLDPLOVER_BUFFER_SHORT));
+    expect("26 bytes", foldplover_rule(dairy + 2, 26, numbers, 12),
+           REFUSAL(FOLDPLOVER_LENGTH_WRONG));
     expect("rule", foldplover_rule(dairy + 2, RECORD, numbers, 12), 0);
     for (place = 0; place < FOLDPLOVER_NUMBERS; place++) {
         expect("a number of the rule", numbers[place], wanted[place]);
@@ -547,10 +552,11 @@ static void test_record(void)
     expect("record", foldplover_record(numbers, 12, record, sizeof record), RECORD);
     expect_bytes("record's bytes", record, dairy + 2, RECORD);
     expect_all("behind the record", record + RECORD, UNTOUCHED, 1);
-    expect("short record", foldplover_record(numbers, 11, record, 26), REFUSAL(FOLDPLOVER_SHORT));
+    expect("short record", foldplover_record(numbers, 11, record, 26),
+           REFUSAL(FOLDPLOVER_BUFFER_SHORT));
     numbers[5 + 2] = 65536;
     expect("port 65,536", foldplover_record(numbers, 11, record, RECORD),
-           REFUSAL(FOLDPLOVER_BAD_RULE));
+           REFUSAL(FOLDPLOVER_RULE_BAD));
     expect_bytes("record after a refusal", record, dairy + 2, RECORD);
 }
 
