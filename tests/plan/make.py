@@ -1,17 +1,17 @@
 #!/usr/bin/env python3
-"""Writes the order sheets of the test program plan_cases, and what it has to print for them by the second program.
+"""Writes the order sheets of the test program test_plan, and what it has to print for them by the second program.
 
     python3 tests/plan/make.py
 
-Run it from the project's root, with target/second built (tests/second/README.md). The sheets go to crates/plan_cases/data,
-the expected output to crates/plan_cases/stdout. Most are the dairy example with one thing changed.
+Run it from the project's root, with target/second built (tests/second/README.md). The sheets go to crates/test_plan/data,
+the expected output to crates/test_plan/stdout. Most are the dairy example with one thing changed.
 """
 
 import importlib.util
 import pathlib
 import subprocess
 
-FOLDER = pathlib.Path("crates/plan_cases")
+FOLDER = pathlib.Path("crates/test_plan")
 RECORD = 27
 
 spec = importlib.util.spec_from_file_location("make", "examples/make.py")
@@ -28,7 +28,7 @@ def changed(sheet, place, value):
 
 
 def order(gate, cell):
-    return make.order_sheet("plan_cases", "\n".join(["gate", *gate, "cell", *cell]))
+    return make.order_sheet("test_plan", "\n".join(["gate", *gate, "cell", *cell]))
 
 
 dairy = example("dairy")

@@ -15,8 +15,8 @@ rustc -O --edition 2021 --cfg library -L native=$out -o $out/second tests/second
 $out/second selftest
 $out/second cases 300 4 >$out/cases.bin
 $out/second expected <$out/cases.bin >$out/cases.out
-for made in $out/cases.bin crates/cases/stdin; do cmp $made tests/second/data/cases.bin; done
-for made in $out/cases.out crates/cases/stdout; do cmp $made tests/second/data/cases.out; done
+for made in $out/cases.bin crates/test_cases/stdin; do cmp $made tests/second/data/cases.bin; done
+for made in $out/cases.out crates/test_cases/stdout; do cmp $made tests/second/data/cases.out; done
 $out/second before <examples/plant.order >$out/before_w2.pair
 cmp $out/before_w2.pair tests/second/data/before_w2.pair
 for order in examples/*.order; do
