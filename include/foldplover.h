@@ -30,7 +30,7 @@
  * changed. A move is right only where both filters see the same packets.
  * docs/FORMATS.md, section 7, says why, and section 8 has stack, time and linking.
  *
- * In what order faults are found
+ * In what order refusals are given
  *
  * FOLDPLOVER_BUFFER_SHORT comes before all else. Then the input is read byte after byte, and
  * whatever is wrong first is the answer. Reading a list, section A or section B: count there
@@ -41,7 +41,7 @@
  * (RULE_BAD). Where the input should end: nothing more (LENGTH_WRONG).
  *
  * At the calls 'reading {2, 3, 4, 5}' stands for this: which of these numbers is given depends on
- * where the first fault lies in the input, not on the order in which they are written.
+ * where the first one lies in the input, not on the order in which they are written.
  */
 #ifndef FOLDPLOVER_H
 #define FOLDPLOVER_H

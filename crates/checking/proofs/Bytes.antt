@@ -11,7 +11,7 @@ use Rattle.wire.specs.Numbers.{numberBytes, numberIn, Byte}
 use Rattle.wire.proofs.Numbers.{bytes-back, bytes-take, bytes-drop}
 
 module _ (a b : List ℕ) (i : ℕ) where
-  -- the four bytes at a place are known from the number that they say
+  -- four bytes are known from the number that they say
   four : (s : List ℕ) → Each Byte s → i + 4 ≤ length s → numberBytes 4 (numberIn (take 4 (drop i s))) ≡ take 4 (drop i s)
   four s h k = bytes-back 4 (take 4 (drop i s)) (length-take-le 4 (drop i s) (rw length-drop (omega arith))) (bytes-take 4 (drop i s) (bytes-drop i s h))
 

@@ -3,11 +3,11 @@
 use mathlib.Core.Path.{_≡_, refl, ap, sym, _∙_}
 use mathlib.Core.List.{List}
 use mathlib.Core.Bool.{Bool, true, false}
-use Prim.Native.Nat.{ℕ, _+_, _<_, _≤_}
+use Prim.Native.Nat.{ℕ, _<_, _≤_}
 use native.Mathlib.Omega.{arith}
 use lib.ListN.{length, take, drop}
 use borrow.Author.Tests.{lt-leb}
-use Rattle.policy.specs.Fields.{countSize, limits, workSize}
+use Rattle.policy.specs.Fields.{limits, workSize}
 use Rattle.policy.specs.Ranges.{Region}
 use Rattle.policy.specs.Refusals.{accepted, refused, numberOf}
 use Rattle.policy.specs.Move.{together, work, Order, Pair, moved}
@@ -20,66 +20,64 @@ use Rattle.policy.proofs.Answers.{said-once}
 use Rattle.policy.proofs.Checks.{groups-sound, groups-self}
 use Rattle.wire.specs.Buffers.{zeroed, answered, roomFor}
 use Rattle.sheet.specs.Pairs.{groupsBytes, pairIn, pairBytes}
-use Rattle.sheet.specs.Steps.{listsOf, pairOf, pairHeard, PairPlace, PairPlaced}
+use Rattle.sheet.specs.Steps.{pairAt, pairHeard, PairLaid, OfPair}
+use Rattle.sheet.specs.declared.PairLayout.{PairLayout}
 use Rattle.sheet.specs.declared.PairParts.the-variants as P
 use Rattle.sheet.proofs.Pairs.{pair-back}
 use Rattle.sheet.proofs.Accepted.{PairAccepted}
-use Rattle.draft.specs.Steps.{DraftedGroups, draftSize}
+use Rattle.draft.specs.Steps.{draftSize}
 use Rattle.draft.specs.declared.Drafted.the-variants as D
-use Rattle.planner.specs.Calls.{workAfter, checkedOf, checkOf, Checks}
+use Rattle.promises.specs.Calls.{workAfter, checkedOf, checkOf, Checks}
 use Rattle.checking.specs.Steps.{SameGroups, CheckRead}
-use Rattle.planner.proofs.Good.{moved-good}
-use Rattle.planner.proofs.Calls.{room-there}
-use Rattle.checking.proofs.Drafting.{draft-over, draft-light, draft-boxes, draft-moves, draft-end, draft-content}
+use Rattle.promises.proofs.Good.{moved-good}
+use Rattle.promises.proofs.Calls.{room-there}
+use Rattle.checking.proofs.Drafting.{AllDrafted, draft-over, draft-light, draft-boxes, draft-moves, draft-end, draft-content}
 
 pub check-refused : {s : List ℕ} {f : Refusal} → pairIn limits s ≡ refused (numberOf f) → CheckRead s (P.Refused f)
-unfolding checkOf pairHeard PairPlaced
-check-refused e = record { says = rw e; place = tt }
+unfolding checkOf pairHeard OfPair
+check-refused e = record { says = rw e; laid = tt }
 
 -- where the parts lie
-pub check-place : {s : List ℕ} {n m middle third boxes : ℕ} → CheckRead s (P.Parts n m middle third boxes) → PairPlace s n m middle third boxes
-unfolding PairPlaced
-check-place x = x .place
+pub check-laid : {s : List ℕ} {l : PairLayout} → CheckRead s (P.Parts l) → PairLaid s l
+unfolding OfPair
+check-laid x = x .laid
 
 -- a test that cannot hold is false
 test-fails : (t : Bool) → (t ≡ true → ⊥) → t ≡ false
 test-fails true f = absurd (f refl)
 test-fails false f = refl
 
-module _ {s : List ℕ} {n m middle third boxes : ℕ} (a : PairAccepted s n m middle third boxes) where
+module _ {s : List ℕ} {l : PairLayout} (a : PairAccepted s l) where
   abbrev p : Pair
-  p = pairOf n m middle third s
+  p = pairAt l s
 
   abbrev o : Order
-  o = listsOf n m middle s
+  o = p .order
 
-  pub lists-inside : countSize ≤ length s
-  lists-inside = omega (arith, a .place .lists .gateEnd, a .place .lists .ownEnd, a .place .lists .inside)
+  module _ {draft w draft′ w′ : List ℕ} where
+    pub check-six : AllDrafted a draft w D.TooManyPieces draft′ w′ → CheckRead s (P.Refused TooManyPieces)
+    unfolding checkOf checkedOf checkRefusal work pairHeard OfPair
+    check-six x = record { says = rw (a .reads, draft-over a x); laid = tt }
 
-  module _ (rules : List ℕ) (is : rules ≡ drop countSize s) {draft w draft′ w′ : List ℕ} where
-    pub check-six : DraftedGroups rules 0 n draft 0 0 w D.TooManyPieces draft′ w′ → CheckRead s (P.Refused TooManyPieces)
-    unfolding checkOf checkedOf checkRefusal work pairHeard PairPlaced
-    check-six x = record { says = rw (a .reads, draft-over a rules is x); place = tt }
-
-    module _ {b end : ℕ} (x : DraftedGroups rules 0 n draft 0 0 w (D.Groups b end) draft′ w′) where
+    module _ {g b end : ℕ} (x : AllDrafted a draft w (D.Groups g b end) draft′ w′) where
       differs : (p .groups ≡ moved o .groups → ⊥) → CheckRead s (P.Refused GroupsDiffer)
-      unfolding checkOf checkedOf checkRefusal work pairHeard PairPlaced
+      unfolding checkOf checkedOf checkRefusal work pairHeard OfPair
       differs f =
           let e = test-fails (sameGroups (p .groups) (moved o .groups)) (λ t. f (groups-sound (p .groups) (moved o .groups) t)) in
-          record { says = rw (a .reads, draft-light a rules is x, e); place = tt }
+          record { says = rw (a .reads, draft-light a x, e); laid = tt }
 
-      pub check-long : draftSize ≤ length draft → b ≡ boxes → end ≤ length draft
-      check-long roomy h = draft-end a rules is x (omega (arith, a .place .totalLimit)) roomy
+      pub check-long : draftSize ≤ length draft → b ≡ l .boxes → end ≤ length draft
+      check-long roomy h = draft-end a x (omega (arith, a .laid .totalLimit)) roomy
 
       -- the two pairs have the same bytes, and each is read back from them
       module _ (roomy : draftSize ≤ length draft) where
-        content : b ≡ boxes → take end draft′ ≡ groupsBytes (moved o .groups)
-        content h = draft-content a rules is x (omega (arith, a .place .totalLimit)) roomy
+        content : b ≡ l .boxes → take end draft′ ≡ groupsBytes (moved o .groups)
+        content h = draft-content a x (omega (arith, a .laid .totalLimit)) roomy
 
-        same : b ≡ boxes → take end draft′ ≡ drop (third + countSize) s → p ≡ moved o
+        same : b ≡ l .boxes → take end draft′ ≡ drop (l .from) s → p ≡ moved o
         unfolding pairBytes
         same h e =
-            let g = moved-good limits o (draft-moves a rules is x (omega (arith, a .place .totalLimit))) in
+            let g = moved-good limits o (draft-moves a x (omega (arith, a .laid .totalLimit))) in
             let c : length (p .groups) ≡ length (moved o .groups) = a .good .counted ∙ sym (g .counted) in
             let q : groupsBytes (p .groups) ≡ groupsBytes (moved o .groups) = a .groupBytes ∙ (sym e ∙ content h) in
             let k : pairBytes p ≡ pairBytes (moved o) = rw (c, q) in
@@ -88,20 +86,20 @@ module _ {s : List ℕ} {n m middle third boxes : ℕ} (a : PairAccepted s n m m
             let z : accepted p ≡ accepted (moved o) = sym u ∙ (ap (pairIn limits) k ∙ v) in
             cc
 
-        module _ {t : Bool} (found : SameGroups s (third + countSize) boxes draft′ b end t) where
+        module _ {t : Bool} (found : SameGroups s l draft′ b end t) where
           pub check-differs : t ≡ false → CheckRead s (P.Refused GroupsDiffer)
           check-differs f =
               differs (λ e.
-              let h : b ≡ boxes = draft-boxes a rules is x ∙ (ap (λ (g : List (List Region)). length (together g)) (sym e) ∙ sym (a .place .boxesAre)) in
+              let h : b ≡ l .boxes = draft-boxes a x ∙ (ap (λ (g : List (List Region)). length (together g)) (sym e) ∙ sym (a .laid .boxesAre)) in
               found .no f h (content h ∙ (ap groupsBytes (sym e) ∙ a .groupBytes)))
 
-          pub check-passes : t ≡ true → CheckRead s (P.Parts n m middle third boxes)
-          unfolding checkOf checkedOf checkRefusal work pairHeard PairPlaced
+          pub check-passes : t ≡ true → CheckRead s (P.Parts l)
+          unfolding checkOf checkedOf checkRefusal work pairHeard OfPair
           check-passes f =
               let y = found .yes f in
               let e = same (y .0) (y .1) in
               let k : sameGroups (p .groups) (moved o .groups) ≡ true = ap (λ (q : Pair). sameGroups (q .groups) (moved o .groups)) e ∙ groups-self (moved o .groups) in
-              record { says = rw (a .reads, draft-light a rules is x, k); place = a .place }
+              record { says = rw (a .reads, draft-light a x, k); laid = a .laid }
 
 -- The call: 1 unless the work buffer is long enough, then what the check came to.
 module _ (s w : List ℕ) where
@@ -114,7 +112,7 @@ module _ (s w : List ℕ) where
     unfolding workAfter answered pairHeard
     check-no x = let l = room-there workSize w h in record { answer = rw (l, ← x .says); work = rw l e }
 
-    pub check-yes : {n m middle third boxes : ℕ} → CheckRead s (P.Parts n m middle third boxes) → Checks s w (Length 0) w′
+    pub check-yes : {l : PairLayout} → CheckRead s (P.Parts l) → Checks s w (Length 0) w′
     unfolding workAfter answered pairHeard
     check-yes x = let l = room-there workSize w h in record { answer = rw (l, ← x .says); work = rw l e }
 

@@ -3,8 +3,8 @@ use draft::DRAFT_BYTES;
 use draft::Drafted;
 use groups::WORK_BYTES;
 use policy::Answer;
-use policy::COUNT_BYTES;
 use policy::Refusal;
+use sheet::PairLayout;
 use sheet::PairParts;
 ghost use mathlib.Core.Path.{_≡_};
 ghost use mathlib.Core.Bool.{true};
@@ -13,7 +13,7 @@ ghost use lib.ListN.{length, drop};
 ghost use Rattle.policy.specs.Fields.{workSize};
 ghost use Rattle.wire.specs.Buffers.{zeroed};
 ghost use Rattle.draft.specs.Steps.{draftSize};
-ghost use Rattle.planner.specs.Calls.{Checks};
+ghost use Rattle.promises.specs.Calls.{Checks};
 ghost use Rattle.checking.specs.Steps.{SameGroups, CheckRead};
 
 // Whether two slices hold the same bytes: four at a time, then what is left.
@@ -35,12 +35,13 @@ fn same_bytes(a: &[u8], b: &[u8]) -> bool
     check::same(&a[i..], &b[i..])
 }
 
-// Whether the draft is all that stands behind a place of the sheet: as many boxes, and the same bytes.
-fn is_same(sheet: &[u8], from: usize, boxes: usize, draft: &[u8], drawn: usize, end: usize) -> bool
-    requires { ⌜ (from ≤ length (now sheet)) × (drawn ≡ boxes → end ≤ length (now draft)) ⌝ }
-    ensures { λ r. ⌜ SameGroups (now (sheet .entry)) from boxes (now (draft .entry)) drawn end r ⌝ }
+// Whether the draft, of so many boxes and ending there, is the sheet's groups: as many boxes, and the same bytes.
+fn is_same(sheet: &[u8], layout: PairLayout, draft: &[u8], boxes: usize, end: usize) -> bool
+    requires { ⌜ (layout .from ≤ length (now sheet)) × (boxes ≡ layout .boxes → end ≤ length (now draft)) ⌝ }
+    ensures { λ r. ⌜ SameGroups (now (sheet .entry)) layout (now (draft .entry)) boxes end r ⌝ }
 {
-    if drawn == boxes {
+    let from = layout.from;
+    if boxes == layout.boxes {
         return same_bytes(&draft[..end], &sheet[from..]);
     }
     false
@@ -53,32 +54,23 @@ fn compare(sheet: &[u8], draft: &mut [u8], work: &mut [u8]) -> PairParts
 {
     match sheet::read_pair(sheet) {
         PairParts::Refused(f) => PairParts::Refused(f),
-        PairParts::Parts {
-            gate,
-            own,
-            middle,
-            third,
-            boxes,
-        } => match draft::draft_groups(&sheet[COUNT_BYTES..], 0, gate, draft, 0, 0, work) {
+        PairParts::Parts(layout) => match draft::draft_all(sheet, layout.order.gate, draft, work) {
             Drafted::TooManyPieces => PairParts::Refused(Refusal::TooManyPieces),
-            Drafted::Groups { boxes: drawn, end } => {
-                let from = third + COUNT_BYTES;
-                if !is_same(sheet, from, boxes, draft, drawn, end) {
+            Drafted::Groups {
+                groups: _,
+                boxes,
+                end,
+            } => {
+                if !is_same(sheet, layout, draft, boxes, end) {
                     return PairParts::Refused(Refusal::GroupsDiffer);
                 }
-                PairParts::Parts {
-                    gate,
-                    own,
-                    middle,
-                    third,
-                    boxes,
-                }
+                PairParts::Parts(layout)
             }
         },
     }
 }
 
-// The parts of a pair sheet that passes check, or the refusal; the work buffer is zero at its front.
+// The layout of a pair sheet that passes check, or the refusal; the work buffer is zero at its front.
 pub fn checked(sheet: &[u8], work: &mut [u8]) -> PairParts
     requires { ⌜ workSize ≤ length (now work) ⌝ }
     ensures { λ r. ⌜ CheckRead (now (sheet .entry)) r × (now (work .exit) ≡ zeroed 0 workSize (now (work .entry))) ⌝ }
@@ -98,12 +90,6 @@ pub fn check(sheet: &[u8], work: &mut [u8]) -> Answer
     }
     match checked(sheet, work) {
         PairParts::Refused(f) => Answer::Refused(f),
-        PairParts::Parts {
-            gate: _,
-            own: _,
-            middle: _,
-            third: _,
-            boxes: _,
-        } => Answer::Length(0),
+        PairParts::Parts(_) => Answer::Length(0),
     }
 }

@@ -15,14 +15,14 @@ use Rattle.sheet.proofs.Pairs.{ProperGroup}
 use Rattle.draft.specs.Steps.{Begins, Told, Drafting, draftSize}
 use Rattle.draft.specs.declared.Drafted.{Drafted}
 use Rattle.draft.specs.declared.Drafted.the-variants.{Groups, TooManyPieces}
-use Rattle.draft.proofs.Laid.{groups-length}
+use Rattle.sheet.proofs.Pairs.{groups-length}
 
 module _ {l : List Slot} {draft draft′ : List ℕ} {front : ℕ} where
   pub drawn-over : Drafting limits l draft 0 front TooManyPieces draft′ → anyOver (limits .pieces) l ≡ true
   unfolding Told
   drawn-over x = x .told
 
-  module _ {boxes end : ℕ} (x : Drafting limits l draft 0 front (Groups boxes end) draft′) where
+  module _ {count boxes end : ℕ} (x : Drafting limits l draft 0 front (Groups count boxes end) draft′) where
     pub drawn-light : anyOver (limits .pieces) l ≡ false
     unfolding Told
     drawn-light = x .told .0
@@ -55,6 +55,6 @@ pub drawn-behind : {l : List Slot} {draft draft′ : List ℕ} {front : ℕ} (r 
     → Each ProperGroup (groupsOf l) → length l ≤ limits .gate → draftSize ≤ length draft → Behind l front r draft′
 unfolding Told
 drawn-behind TooManyPieces x k proper short room = record { told = drawn-over x }
-drawn-behind (Groups b n) x k proper short room = record {
+drawn-behind (Groups g b n) x k proper short room = record {
   told = (drawn-light x, drawn-boxes x, λ t. (omega (arith, drawn-end x t proper short room), drawn-content x t proper short room));
 }

@@ -1,29 +1,20 @@
--- Groups of proper boxes in bytes: how long they are, and that they lie one behind another. Assumes nothing.
+-- Groups of proper boxes lie one behind another in their bytes. Assumes nothing.
 use mathlib.Core.Path.{_≡_, refl}
 use mathlib.Core.List.{List, [], _∷_}
-use Prim.Native.Nat.{_+_, _*_, _<_}
+use Prim.Native.Nat.{_+_, _<_}
 use native.Mathlib.Omega.{arith}
 use lib.ListN.{length, length-append}
 use Rattle.lists.specs.Lists.{Each}
-use Rattle.policy.specs.Fields.{highest, widths, boxSize, countSize}
+use Rattle.policy.specs.Fields.{highest, widths, boxSize}
 use Rattle.policy.specs.Ranges.{Region, proper}
 use Rattle.policy.specs.Move.{together}
 use Rattle.wire.specs.Records.{Fits, boxesBytes, eachBytes}
 use Rattle.wire.proofs.Records.{proper-fits, boxesBytes-length}
-use Rattle.wire.proofs.Numbers.{numberBytes-length}
 use Rattle.sheet.specs.Pairs.{groupBytes, groupsBytes}
 use Rattle.wire.proofs.Counts.{counted}
 use Rattle.sheet.proofs.Pairs.{ProperGroup}
 use Rattle.draft.specs.Steps.{Laid}
 use Rattle.lists.proofs.Lists.{each-every}
-
-pub groups-length : (gs : List (List Region)) → Each ProperGroup gs → length (groupsBytes gs) ≡ countSize * length gs + boxSize * length (together gs)
-unfolding eachBytes groupBytes together Each
-groups-length [] h = refl
-groups-length (g ∷ gs) h =
-    let i = groups-length gs (h .1) in
-    let b = boxesBytes-length g (each-every (proper highest) (Fits widths) proper-fits g (h .0)) in
-    rw (length-append, length-append, length-append, numberBytes-length) (omega arith)
 
 -- Groups of proper boxes, within the total, lie one behind another in their bytes.
 pub groups-laid : (gs : List (List Region)) → Each ProperGroup gs → length (together gs) < 65536 → Laid (length gs) (groupsBytes gs)

@@ -3,5 +3,3 @@ pub mod Sheets
 pub mod Turns
 pub mod Laid
 pub mod Drawn
-pub mod Runs
-pub mod Rooms

@@ -19,7 +19,7 @@ use Rattle.wire.specs.Lists.{countIn}
 pub group-put : (out c last boxes : List ℕ) (n : ℕ) → c ≡ sets out 0 (numberBytes countSize n) → last ≡ sets c countSize boxes → last ≡ sets out 0 (numberBytes countSize n ++ boxes)
 group-put out c last boxes n e f = f ∙ sym (sets-append out 0 (numberBytes countSize n) boxes ∙ rw (numberBytes-length countSize n, ← e))
 
--- the group at a place of the draft, as its count and its boxes
+-- the group that begins at a byte of the draft, as its count and its boxes
 group-lies : (draft : List ℕ) (from start end : ℕ) → Each Byte draft → start ≡ from + countSize → end ≡ start + boxSize * countIn (drop from draft) → end ≤ length draft
     → numberBytes countSize (countIn (drop from draft)) ++ take (end - start) (drop start draft) ≡ take (end - from) (drop from draft)
 group-lies draft from start end b e f h =
@@ -50,7 +50,7 @@ module _ (first draft sheet : List ℕ) (at from : ℕ) (so-far : sheet ≡ sets
   pub groups-all : length (drop from draft) ≡ 0 → sheet ≡ sets first at draft
   groups-all h = so-far ∙ ap (sets first at) (take-all from draft (omega (arith, length-drop from draft)))
 
--- the next of the groups that lie in the draft from a place on: its count, where it ends, and the groups behind it
+-- the next of the groups that lie in the draft from a byte on: its count, where it ends, and the groups behind it
 module _ (left : ℕ) (draft : List ℕ) (from : ℕ) (more : 0 < left) (laid : Laid left (drop from draft)) (within : from ≤ length draft) where
   front : (k : ℕ) → left ≡ suc k → Laid (suc k) (drop from draft)
   front k e = rw (← e) laid

@@ -1,6 +1,4 @@
 // Section C under construction: groups worked out anew, one behind another in a local draft, and written to the sheet from there.
-pub mod kept;
-
 use groups::Worked;
 use policy::BOX_BYTES;
 use policy::COUNT_BYTES;
@@ -12,38 +10,22 @@ ghost use mathlib.Core.List.{_++_};
 ghost use Prim.Native.Nat.{_+_, _*_, _≤_, _<_};
 ghost use lib.ListN.{length, drop};
 ghost use lib.Seq.{sets};
-ghost use Rattle.policy.specs.Fields.{boxSize, countSize, recordSize, limits};
-ghost use Rattle.policy.specs.Rules.{isAllow};
+ghost use Rattle.policy.specs.Fields.{boxSize, countSize, limits};
+ghost use Rattle.policy.specs.Move.{alone};
 ghost use Rattle.wire.specs.Numbers.{numberBytes};
-ghost use Rattle.wire.specs.Records.{ruleIn};
 ghost use Rattle.sheet.specs.Pairs.{groupSize};
-ghost use Rattle.draft.specs.Steps.{Appended, Ready, DraftedGroups, Laid};
+ghost use Rattle.draft.specs.Steps.{Appended, Ready, AllReady, DraftedGroups, Laid};
 
 pub const DRAFT_BYTES: usize = COUNT_BYTES * GATE_MOST + BOX_BYTES * TOTAL_MOST;
 
-// How many boxes there are and where the draft ends; or number 6.
+// How many groups were worked out, how many boxes there are with those counted before, and where the groups' bytes end; or number 6.
 pub enum Drafted {
-    Groups { boxes: usize, end: usize },
+    Groups {
+        groups: usize,
+        boxes: usize,
+        end: usize,
+    },
     TooManyPieces,
-}
-
-// Where the groups of an edited A come from: those before `earlier` and those from `later` up to `groups` are kept, and those
-// of the new rules from `place` up to `to` are worked out anew between them.
-pub struct Around {
-    pub earlier: usize,
-    pub later: usize,
-    pub groups: usize,
-    pub place: usize,
-    pub to: usize,
-}
-
-// Whether the rule at place i allows.
-pub fn is_allow(rules: &[u8], i: usize) -> bool
-    requires { ⌜ recordSize * (i + 1) ≤ length (now rules) ⌝ }
-    ensures { λ r. ⌜ r ≡ isAllow (ruleIn (drop (recordSize * i) (now (rules .entry)))) ⌝ }
-{
-    let rule = wire::rule_at(rules, RECORD_BYTES * i);
-    rule.action == 1
 }
 
 // The group writer: a count and so many boxes at the front of the part that it is lent.
@@ -77,10 +59,15 @@ fn draft_one(
     work: &mut [u8],
 ) -> Drafted
     requires { ⌜ Ready (now rules) i (i + 1) (now draft) at boxes (now work) ⌝ }
-    ensures { λ r. ⌜ DraftedGroups (now (rules .entry)) i (i + 1) (now (draft .entry)) at boxes (now (work .entry)) r (now (draft .exit)) (now (work .exit)) ⌝ }
+    ensures { λ r. ⌜ DraftedGroups alone (now (rules .entry)) i (i + 1) (now (draft .entry)) at boxes (now (work .entry)) r (now (draft .exit)) (now (work .exit)) ⌝ }
 {
-    if is_allow(rules, i) {
-        return Drafted::Groups { boxes, end: at };
+    let rule = wire::rule_at(rules, RECORD_BYTES * i);
+    if rule.is_allow() {
+        return Drafted::Groups {
+            groups: 0,
+            boxes,
+            end: at,
+        };
     }
     match groups::work_out(rules, i, work) {
         Worked::TooMany => Drafted::TooManyPieces,
@@ -88,6 +75,7 @@ fn draft_one(
             let size = BOX_BYTES * n;
             let end = append(draft, at, boxes + n, n, &work[..size]);
             Drafted::Groups {
+                groups: 1,
                 boxes: boxes + n,
                 end,
             }
@@ -95,38 +83,55 @@ fn draft_one(
     }
 }
 
-// The groups of the deny rules from one place up to another, behind what the draft holds.
+// The groups of the deny rules from one place up to another, at the front of the draft; so many boxes are counted already.
 pub fn draft_groups(
     rules: &[u8],
     from: usize,
     to: usize,
-    draft: &mut [u8],
-    at: usize,
     boxes: usize,
+    draft: &mut [u8],
     work: &mut [u8],
 ) -> Drafted
-    requires { ⌜ Ready (now rules) from to (now draft) at boxes (now work) ⌝ }
-    ensures { λ r. ⌜ DraftedGroups (now (rules .entry)) from to (now (draft .entry)) at boxes (now (work .entry)) r (now (draft .exit)) (now (work .exit)) ⌝ }
+    requires { ⌜ Ready (now rules) from to (now draft) 0 boxes (now work) ⌝ }
+    ensures { λ r. ⌜ DraftedGroups alone (now (rules .entry)) from to (now (draft .entry)) 0 boxes (now (work .entry)) r (now (draft .exit)) (now (work .exit)) ⌝ }
 {
     let mut i = from;
-    let mut end = at;
+    let mut count: usize = 0;
+    let mut end: usize = 0;
     let mut sum = boxes;
     while i < to {
         match draft_one(rules, i, draft, end, sum, work) {
             Drafted::TooManyPieces => return Drafted::TooManyPieces,
-            Drafted::Groups { boxes: b, end: e } => {
+            Drafted::Groups {
+                groups: g,
+                boxes: b,
+                end: e,
+            } => {
+                count += g;
                 sum = b;
                 end = e;
             }
         }
         i += 1;
     }
-    Drafted::Groups { boxes: sum, end }
+    Drafted::Groups {
+        groups: count,
+        boxes: sum,
+        end,
+    }
 }
 
-// The draft's groups written one behind another from a place of the sheet on, each by the group writer, which is lent the part
-// of the sheet that starts there.
-fn put_groups(sheet: &mut [u8], at: usize, groups: usize, draft: &[u8])
+// All groups of the list of `gate` rules that begins the bytes, an order sheet's or a pair sheet's.
+pub fn draft_all(s: &[u8], gate: usize, draft: &mut [u8], work: &mut [u8]) -> Drafted
+    requires { ⌜ AllReady (now s) gate (now draft) (now work) ⌝ }
+    ensures { λ r. ⌜ DraftedGroups alone (drop countSize (now (s .entry))) 0 gate (now (draft .entry)) 0 0 (now (work .entry)) r (now (draft .exit)) (now (work .exit)) ⌝ }
+{
+    draft_groups(&s[COUNT_BYTES..], 0, gate, 0, draft, work)
+}
+
+// The draft's groups written one behind another from `at` on, each by the group writer, which is lent the part of the sheet that
+// starts there.
+pub fn put_groups(sheet: &mut [u8], at: usize, groups: usize, draft: &[u8])
     requires { ⌜ (Laid groups (now draft)) × (at + length (now draft) ≤ length (now sheet)) ⌝ }
     ensures { λ r. ⌜ now (sheet .exit) ≡ sets (now (sheet .entry)) at (now (draft .entry)) ⌝ }
 {

@@ -9,8 +9,8 @@ use Rattle.policy.specs.Fields.{limits, workSize}
 use Rattle.policy.specs.declared.Answer.{Answer}
 use Rattle.sheet.specs.Pairs.{pairBytes, pairSize}
 use Rattle.wire.specs.Buffers.{roomFor}
-use Rattle.planner.specs.Edits.{Asked, editLent, editedOf, Edits}
-use Rattle.planner.proofs.Calls.{room-there, call-once}
+use Rattle.promises.specs.Edits.{Asked, editLent, editedOf, Edits}
+use Rattle.promises.proofs.Calls.{room-there, call-once}
 
 module _ (sheet : List ℕ) (used : ℕ) (w : List ℕ) (long : pairSize ≤ length sheet) where
   pub used-short : length sheet < used → editLent sheet used w ≡ false

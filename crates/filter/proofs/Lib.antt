@@ -1,4 +1,5 @@
 pub mod Insides
+pub mod Misses
 pub mod Lookups
 pub mod Verdicts
 pub mod Lists

@@ -1,4 +1,5 @@
-// Lookup of a packet in list bytes.
+// Whether a box has a packet, and lookup of a packet in list bytes.
+use policy::Box;
 use policy::COUNT_BYTES;
 use policy::FIELDS;
 use policy::Packet;
@@ -12,10 +13,11 @@ ghost use mathlib.Core.Path.{_≡_};
 ghost use Prim.Native.Nat.{_≤_};
 ghost use lib.ListN.{length, drop};
 ghost use Rattle.policy.specs.Fields.{countSize, limits};
-ghost use Rattle.policy.specs.Ranges.{range, within};
-ghost use Rattle.policy.specs.Values.{packetOf};
+ghost use Rattle.policy.specs.Ranges.{range, within, inside, Whole};
+ghost use Rattle.policy.specs.Values.{packetOf, regionOf};
 ghost use Rattle.wire.specs.Records.{rulesIn};
 ghost use Rattle.filter.specs.Lookup.{lookFrom, lookup, lookupNumber, verdict};
+ghost use Rattle.filter.specs.Steps.{missOf};
 ghost use Rattle.wire.specs.Lists.{listSize};
 
 // The rule that decides, or the refusal.
@@ -30,6 +32,31 @@ pub fn is_within(x: u32, low: u32, high: u32) -> bool
     ensures { λ r. ⌜ r ≡ within x (range low high) ⌝ }
 {
     std::num::wrapping_sub_u32(x, low) <= high - low
+}
+
+// 1 for a field outside its range, 0 for one inside it.
+fn miss(x: u32, low: u32, high: u32) -> u32
+    requires { ⌜ low ≤ high ⌝ }
+    ensures { λ r. ⌜ (r ≡ missOf x (range low high)) × (r ≤ 1) ⌝ }
+{
+    if is_within(x, low, high) {
+        return 0;
+    }
+    1
+}
+
+// A box that is not empty has the packet if no field is outside its range. The misses are counted, and none ends the count: so the
+// time does not hang on which field misses.
+pub fn is_inside(p: Packet, bounds: Box) -> bool
+    requires { ⌜ Whole (regionOf bounds) ⌝ }
+    ensures { λ r. ⌜ r ≡ inside (packetOf p) (regionOf bounds) ⌝ }
+{
+    let values = p.values;
+    let mut missed: u32 = 0;
+    for k in 0..FIELDS {
+        missed += miss(values[k], bounds.low_at(k), bounds.high_at(k));
+    }
+    missed == 0
 }
 
 // The rules of a list of so many, one after another: a field outside its range ends a rule.
@@ -58,7 +85,7 @@ fn scan(p: Packet, list: &[u8], count: usize) -> Verdict
 }
 
 // A list may have at most so many rules.
-fn lookup_within(most: usize, p: Packet, list: &[u8]) -> Verdict
+pub fn lookup_within(most: usize, p: Packet, list: &[u8]) -> Verdict
     ensures { λ r. ⌜ verdict r ≡ lookup most (packetOf p) (now (list .entry)) ⌝ }
 {
     if list.len() < COUNT_BYTES {

@@ -22,9 +22,9 @@ use Rattle.sheet.proofs.Outcomes.{readable}
 use Rattle.sheet.proofs.Orders.{list-readable, order-readable}
 use Rattle.orders.proofs.Undo.{split-wrote}
 use Rattle.wire.proofs.Buffers.{filled-content}
-use Rattle.planner.specs.Calls.{bothLent, checkOf, Lists, gateBytes, gateListSize, cellBytes, cellListSize}
-use Rattle.planner.proofs.Calls.{call-accepted, call-content}
-use Rattle.planner.proofs.Theorems.{move-call-holds}
+use Rattle.promises.specs.Calls.{bothLent, checkOf, Lists, gateBytes, gateListSize, cellBytes, cellListSize}
+use Rattle.promises.proofs.Calls.{call-accepted, call-content}
+use Rattle.promises.proofs.Theorems.{move-call-holds}
 use Rattle.origins.specs.Origin.{Decision, originOf, originCall, valueOf}
 use Rattle.origins.specs.Theorems.{hitOf}
 use Rattle.origins.proofs.Theorems.{origin-agrees}

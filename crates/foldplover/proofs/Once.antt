@@ -11,8 +11,8 @@ use Rattle.orders.specs.Split.{Split}
 use Rattle.orders.specs.Join.{Join}
 use Rattle.orders.proofs.Splits.{split-once}
 use Rattle.orders.proofs.Joins.{join-once}
-use Rattle.planner.specs.Calls.{Call, Checks}
-use Rattle.planner.proofs.Calls.{call-once}
+use Rattle.promises.specs.Calls.{Call, Checks}
+use Rattle.promises.proofs.Calls.{call-once}
 use Rattle.checking.proofs.Checking.{check-once}
 use Rattle.origins.specs.Origin.{Origins}
 use Rattle.origins.proofs.Calls.{origin-once}

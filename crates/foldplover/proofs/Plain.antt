@@ -20,8 +20,8 @@ use Rattle.wire.specs.Buffers.{roomFor, answered, written, lengthOf}
 use Rattle.sheet.specs.Orders.{orderBytes, orderIn, gateSize, ownSize, orderSize}
 use Rattle.orders.specs.Split.{splitOf, Split, firstBytes}
 use Rattle.orders.specs.Join.{joinOf, Join}
-use Rattle.planner.specs.Calls.{Call, checkOf, Checks}
-use Rattle.planner.proofs.Lengths.{filled-within, call-length}
+use Rattle.promises.specs.Calls.{Call, checkOf, Checks}
+use Rattle.promises.proofs.Lengths.{filled-within, call-length}
 use Rattle.filter.specs.Lookup.{lookupNumber}
 use Rattle.origins.specs.Origin.{Decision, originCall, valueOf, Origins}
 use Rattle.origins.proofs.Calls.{value-small}

@@ -15,7 +15,7 @@ use Rattle.policy.specs.declared.Answer.the-variants.{Length}
 use Rattle.wire.specs.Numbers.{Byte}
 use Rattle.filter.specs.Lookup.{lookup, lookupNumber}
 use Rattle.orders.specs.Split.{Split}
-use Rattle.planner.specs.Calls.{bothLent, Moves, Lists, gateBytes, gateListSize, cellBytes, cellListSize}
+use Rattle.promises.specs.Calls.{bothLent, Moves, Lists, gateBytes, gateListSize, cellBytes, cellListSize}
 use Rattle.origins.specs.Origin.{originSize, Origins}
 use Rattle.foldplover.specs.Coded.{Coded}
 

@@ -1,10 +1,11 @@
 // The calls for C. Each hands over to the call of the crate below, and turns its answer into one number.
 pub mod lookup_table;
 
-use planner::Change;
 use policy::Answer;
 use policy::Packet;
 use policy::refused_number;
+use promises::Change;
+use promises::Request;
 ghost use mathlib.Core.Path.{_≡_};
 ghost use mathlib.Core.List.{[], _∷_};
 ghost use Rattle.policy.specs.Fields.{limits};
@@ -13,9 +14,9 @@ ghost use Rattle.policy.specs.Values.{packetOf};
 ghost use Rattle.records.specs.Calls.{RecordRead, RecordWritten};
 ghost use Rattle.orders.specs.Split.{Split};
 ghost use Rattle.orders.specs.Join.{Join};
-ghost use Rattle.planner.specs.Calls.{Moves, Checks, Lists, cellBytes, cellListSize, gateBytes, gateListSize};
-ghost use Rattle.planner.specs.Edits.{Edits, asked};
-ghost use Rattle.planner.specs.declared.Change.the-variants.{Insert, Delete, Replace};
+ghost use Rattle.promises.specs.Calls.{Moves, Checks, Lists, cellBytes, cellListSize, gateBytes, gateListSize};
+ghost use Rattle.promises.specs.Edits.{Edits, request, asked};
+ghost use Rattle.promises.specs.declared.Change.the-variants.{Insert, Delete, Replace};
 ghost use Rattle.filter.specs.Lookup.{lookup, lookupNumber};
 ghost use Rattle.origins.specs.Origin.{Origins};
 ghost use Rattle.foldplover.specs.Coded.{coded, Plain, Coded};
@@ -34,49 +35,64 @@ fn answer_number(a: Answer) -> u32
 pub extern "C" fn foldplover_move(order: &[u8], sheet: &mut [u8], work: &mut [u8]) -> u32
     ensures { λ r. ⌜ Coded (λ q. Moves (now (order .entry)) (now (sheet .entry)) (now (work .entry)) q (now (sheet .exit)) (now (work .exit))) r ⌝ }
 {
-    answer_number(planner::move_order(order, sheet, work))
+    answer_number(moving::move_order(order, sheet, work))
 }
 
 #[no_mangle]
 pub extern "C" fn foldplover_insert(
     sheet: &mut [u8],
     used: usize,
-    list: u32,
+    which: u32,
     place: usize,
     bytes: &[u8],
     work: &mut [u8],
 ) -> u32
-    ensures { λ r. ⌜ Coded (λ q. Edits (now (sheet .entry)) used (asked list place Insert (now (bytes .entry))) (now (work .entry)) q (now (sheet .exit)) (now (work .exit))) r ⌝ }
+    ensures { λ r. ⌜ Coded (λ q. Edits (now (sheet .entry)) used (asked (request which place Insert) (now (bytes .entry))) (now (work .entry)) q (now (sheet .exit)) (now (work .exit))) r ⌝ }
 {
-    answer_number(editing::edit(sheet, used, list, place, Change::Insert, bytes, work))
+    let request = Request {
+        which,
+        place,
+        change: Change::Insert,
+    };
+    answer_number(editing::edit(sheet, used, request, bytes, work))
 }
 
 #[no_mangle]
 pub extern "C" fn foldplover_delete(
     sheet: &mut [u8],
     used: usize,
-    list: u32,
+    which: u32,
     place: usize,
     work: &mut [u8],
 ) -> u32
-    ensures { λ r. ⌜ Coded (λ q. Edits (now (sheet .entry)) used (asked list place Delete []) (now (work .entry)) q (now (sheet .exit)) (now (work .exit))) r ⌝ }
+    ensures { λ r. ⌜ Coded (λ q. Edits (now (sheet .entry)) used (asked (request which place Delete) []) (now (work .entry)) q (now (sheet .exit)) (now (work .exit))) r ⌝ }
 {
     let none = [0u8; 0];
-    answer_number(editing::edit(sheet, used, list, place, Change::Delete, &none, work))
+    let request = Request {
+        which,
+        place,
+        change: Change::Delete,
+    };
+    answer_number(editing::edit(sheet, used, request, &none, work))
 }
 
 #[no_mangle]
 pub extern "C" fn foldplover_replace(
     sheet: &mut [u8],
     used: usize,
-    list: u32,
+    which: u32,
     place: usize,
     bytes: &[u8],
     work: &mut [u8],
 ) -> u32
-    ensures { λ r. ⌜ Coded (λ q. Edits (now (sheet .entry)) used (asked list place Replace (now (bytes .entry))) (now (work .entry)) q (now (sheet .exit)) (now (work .exit))) r ⌝ }
+    ensures { λ r. ⌜ Coded (λ q. Edits (now (sheet .entry)) used (asked (request which place Replace) (now (bytes .entry))) (now (work .entry)) q (now (sheet .exit)) (now (work .exit))) r ⌝ }
 {
-    answer_number(editing::edit(sheet, used, list, place, Change::Replace, bytes, work))
+    let request = Request {
+        which,
+        place,
+        change: Change::Replace,
+    };
+    answer_number(editing::edit(sheet, used, request, bytes, work))
 }
 
 #[no_mangle]
@@ -87,17 +103,17 @@ pub extern "C" fn foldplover_check(sheet: &[u8], work: &mut [u8]) -> u32
 }
 
 #[no_mangle]
-pub extern "C" fn foldplover_cell_list(sheet: &[u8], list: &mut [u8], work: &mut [u8]) -> u32
-    ensures { λ r. ⌜ Coded (λ q. Lists cellBytes cellListSize (now (sheet .entry)) (now (list .entry)) (now (work .entry)) q (now (list .exit)) (now (work .exit))) r ⌝ }
+pub extern "C" fn foldplover_cell_list(sheet: &[u8], out: &mut [u8], work: &mut [u8]) -> u32
+    ensures { λ r. ⌜ Coded (λ q. Lists cellBytes cellListSize (now (sheet .entry)) (now (out .entry)) (now (work .entry)) q (now (out .exit)) (now (work .exit))) r ⌝ }
 {
-    answer_number(listing::cell_list(sheet, list, work))
+    answer_number(listing::cell_list(sheet, out, work))
 }
 
 #[no_mangle]
-pub extern "C" fn foldplover_gate_list(sheet: &[u8], list: &mut [u8], work: &mut [u8]) -> u32
-    ensures { λ r. ⌜ Coded (λ q. Lists gateBytes gateListSize (now (sheet .entry)) (now (list .entry)) (now (work .entry)) q (now (list .exit)) (now (work .exit))) r ⌝ }
+pub extern "C" fn foldplover_gate_list(sheet: &[u8], out: &mut [u8], work: &mut [u8]) -> u32
+    ensures { λ r. ⌜ Coded (λ q. Lists gateBytes gateListSize (now (sheet .entry)) (now (out .entry)) (now (work .entry)) q (now (out .exit)) (now (work .exit))) r ⌝ }
 {
-    answer_number(listing::gate_list(sheet, list, work))
+    answer_number(listing::gate_list(sheet, out, work))
 }
 
 #[no_mangle]

@@ -7,11 +7,11 @@ use lib.ListN.{length, take, drop, length-drop, drop-of-length-le}
 use lib.Seq.{sets, sets-eq, length-take-le, take-length, drop-drop}
 
 -- Bytes copied by way of a buffer of just their length.
-pub moved : (w held z y : List ℕ) (from to size k j : ℕ) → from + size ≤ length w → to + size ≤ length w → k ≡ size → j ≡ size → length z ≡ size
+pub copied : (w held z y : List ℕ) (from to size k j : ℕ) → from + size ≤ length w → to + size ≤ length w → k ≡ size → j ≡ size → length z ≡ size
     → held ≡ take (length (take k (drop from w))) (take k (drop from w)) ++ drop (length (take k (drop from w))) z
     → y ≡ take (length held) held ++ drop (length held) (take j (drop to w))
     → take to w ++ (y ++ drop j (drop to w)) ≡ sets w to (take size (drop from w))
-moved w held z y from to size k j h g ek ej lz eh ey =
+copied w held z y from to size k j h g ek ej lz eh ey =
     let s : List ℕ = take size (drop from w) in
     let ls : length s ≡ size = length-take-le size (drop from w) (rw length-drop (omega arith)) in
     let lt : length (take size (drop to w)) ≡ size = length-take-le size (drop to w) (rw length-drop (omega arith)) in

@@ -17,7 +17,7 @@ use Rattle.policy.specs.Cut.{share, shared, cut}
 use Rattle.policy.proofs.Values.{range-read}
 use Rattle.policy.proofs.Rest.{rest, rest-all, rest-field, rest-done}
 use Rattle.wire.specs.Records.{boxBytes}
-use Rattle.groups.specs.Steps.{places, most, Stored, LaterStand, CutAt, FieldCut}
+use Rattle.groups.specs.Steps.{capacity, storedMost, Stored, LaterStand, CutAt, FieldCut}
 use Rattle.groups.specs.declared.Ends.{Ends}
 use Rattle.groups.specs.declared.Underway.{Underway}
 use Rattle.groups.proofs.Stores.{length-store, take-store, stored-then, stored-none}
@@ -51,7 +51,7 @@ pub below-few : {half : ℕ} {work work′ : List ℕ} {m r : ℕ} (b : Region) 
 below-few b k x s = let f = some-few (ltb (rangeAt b k .low) x) (set b k (range (rangeAt b k .low) (x - 1))) 1 (λ t. omega arith) in omega (arith, s .count)
 
 pub cut-at-kept : {half : ℕ} {work work′ : List ℕ} {at : ℕ} {done : Underway} {k : ℕ} {ends : Ends} {l : List Region} {r : ℕ} → CutAt half work at done k ends
-    → Stored half work (done .stored) l work′ r → r ≤ done .stored + 1 → done .stored + 1 < most → CutAt half work′ at (record { rest = done .rest; stored = r }) k ends
+    → Stored half work (done .stored) l work′ r → r ≤ done .stored + 1 → done .stored + 1 < storedMost → CutAt half work′ at (record { rest = done .rest; stored = r }) k ends
 cut-at-kept {half} {work} {work′} {at} {done} {k} {ends} {l} {r} g s h q = record {
   room = rw (s .bytes, length-store) (g .room);
   few = omega arith;
@@ -142,7 +142,7 @@ module _ {half : ℕ} {work₀ : List ℕ} {n : ℕ} {d a : Region} {work : List
 -- The same at the ends that the code has read.
 module _ {half : ℕ} {work₀ : List ℕ} {n : ℕ} {d a : Region} {work : List ℕ} {done : Underway} {k : ℕ} (g : Cutting half work₀ n d a work (done .stored) (regionOf (done .rest)) k) (t : k < fields)
     {ends : Ends} (el : ends .low ≡ rangeAt d k .low) (eh : ends .high ≡ rangeAt d k .high) (ef : ends .from ≡ rangeAt a k .low) (et : ends .to ≡ rangeAt a k .high) where
-  pub cutting-at : (at : ℕ) → half + boxSize * places ≤ length work₀ → n + 2 * fields ≤ most → at + boxSize ≤ half → take boxSize (drop at work₀) ≡ boxBytes d → CutAt half work at done k ends × (done .stored + 1 < most)
+  pub cutting-at : (at : ℕ) → half + boxSize * capacity ≤ length work₀ → n + 2 * fields ≤ storedMost → at + boxSize ≤ half → take boxSize (drop at work₀) ≡ boxBytes d → CutAt half work at done k ends × (done .stored + 1 < storedMost)
   cutting-at at room few before written = (
     record {
       room = omega (arith, g .wide);

@@ -6,3 +6,4 @@ pub mod Copies
 pub mod Passes
 pub mod Taken
 pub mod Works
+pub mod Starts

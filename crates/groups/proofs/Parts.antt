@@ -44,7 +44,7 @@ module _ (k : ℕ) (b : Region) where
       let whole : v ++ drop (length v) u ≡ boxBytes b = ap (λ (s : List ℕ). v ++ s) tail ∙ sym (ranges-split (k + 1) widths b) in
       f ∙ (ap (λ (s : List ℕ). sets s to v) e ∙ (sets-over work u v to (omega arith) (omega arith) ∙ ap (sets work to) whole))
 
-  -- A box that stands at a place has its own later fields there, and so has one with the same later fields.
+  -- A box that begins at `at` has its own later fields there, and so has one with the same later fields.
   pub later-own : (work : List ℕ) (at : ℕ) (d : Region) → length d ≡ fields → take boxSize (drop at work) ≡ boxBytes d → drop (k + 1) b ≡ drop (k + 1) d → LaterStand k b at work
   later-own work at d ld e later =
       rw (e, ranges-split (k + 1) widths d, later)

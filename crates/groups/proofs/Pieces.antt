@@ -21,7 +21,7 @@ drop-take zero m l = let e : 0 + m ≡ m = omega arith in ap (λ (k : ℕ). take
 drop-take (suc n) m [] = let e : suc n + m ≡ suc (n + m) = omega arith in rw (e, take-nil)
 drop-take (suc n) m (a ∷ l) = let e : suc n + m ≡ suc (n + m) = omega arith in rw e (drop-take n m l)
 
--- The bytes of a box, in a buffer that is alike up to some place behind it.
+-- The bytes of a box that lies in the first half, in a buffer with the same first half.
 pub bytes-alike : (at half : ℕ) (work work′ : List ℕ) → take half work′ ≡ take half work → at + boxSize ≤ half → take boxSize (drop at work′) ≡ take boxSize (drop at work)
 bytes-alike at half work work′ alike inside =
     let q : (w : List ℕ) → take boxSize (drop at w) ≡ drop at (take (at + boxSize) (take half w)) =
@@ -31,13 +31,13 @@ bytes-alike at half work work′ alike inside =
 pub proper-all : (l : List Region) → Each Proper l → Each (Fits widths) l
 proper-all l h = each-imp Proper (Fits widths) l proper-fits h
 
--- The pieces from place i on: the one there, and those behind it.
+-- The pieces from piece i on: it, and those behind it.
 pub boxes-next : (n i : ℕ) (s : List ℕ) → i < n → drop i (boxesIn n s) ≡ boxIn (drop (boxSize * i) s) ∷ drop (i + 1) (boxesIn n s)
 boxes-next n i s h = drop-cons (boxesIn n s) i [] (rw boxesIn-length h) ∙ rw (add-one, box-in-place i n s [] h)
 
 module _ {n : ℕ} {work : List ℕ} (st : Stands n work) (room : boxSize * n ≤ length work) where
   module _ (i : ℕ) (h : i ≤ n) where
-    -- The bytes of the pieces before place i, and of those from there on.
+    -- The bytes of the pieces before piece i, and of those from it on.
     parts : take (boxSize * i) work ++ take (boxSize * (n - i)) (drop (boxSize * i) work) ≡ boxesBytes (take i (boxesIn n work)) ++ boxesBytes (drop i (boxesIn n work))
     parts =
         let e : boxSize * n ≡ boxSize * i + boxSize * (n - i) = omega arith in
@@ -62,7 +62,7 @@ module _ {n : ℕ} {work : List ℕ} (st : Stands n work) (room : boxSize * n �
         sym (drop-at (take (boxSize * i) work) (take (boxSize * (n - i)) (drop (boxSize * i) work)) (boxSize * i) taken-length)
         ∙ (ap (drop (boxSize * i)) parts ∙ drop-at (boxesBytes (take i (boxesIn n work))) (boxesBytes (drop i (boxesIn n work))) (boxSize * i) before-length)
 
-  -- The piece at place i.
+  -- Piece i.
   module _ (i : ℕ) (h : i < n) where
     pub fits-at : Fits widths (boxIn (drop (boxSize * i) work))
     unfolding Each
@@ -75,7 +75,7 @@ module _ {n : ℕ} {work : List ℕ} (st : Stands n work) (room : boxSize * n �
         sym (take-take boxSize (boxSize * (n - i)) s (omega arith))
         ∙ (ap (take boxSize) (bytes-from i (omega arith) ∙ ap boxesBytes (boxes-next n i work h)) ∙ take-at (boxBytes (boxIn s)) (boxesBytes (drop (i + 1) (boxesIn n work))) boxSize (boxBytes-length (boxIn s) fits-at))
 
-    -- The same in a buffer that is alike up to some place behind the piece.
+    -- The same in a buffer with the same first half, in which the piece lies.
     module _ (half : ℕ) (work′ : List ℕ) (alike : take half work′ ≡ take half work) (inside : boxSize * i + boxSize ≤ half) where
       same-bytes : take boxSize (drop (boxSize * i) work′) ≡ take boxSize (drop (boxSize * i) work)
       same-bytes = bytes-alike (boxSize * i) half work work′ alike inside

@@ -18,7 +18,7 @@ use Rattle.policy.proofs.Proper.{proper-piece}
 use Rattle.wire.specs.Records.{boxBytes, boxesBytes, boxesIn, Fits}
 use Rattle.wire.proofs.Records.{boxesBytes-length, boxesIn-length, boxes-back}
 use Rattle.wire.specs.Steps.{copiedDown}
-use Rattle.groups.specs.Steps.{places, Stored, Stands, Untouched, Taken}
+use Rattle.groups.specs.Steps.{capacity, Stored, Stands, Untouched, Taken}
 use Rattle.groups.proofs.Stores.{take-store, drop-store, store-fits}
 use Rattle.groups.proofs.Pieces.{proper-all, bytes-before}
 use Rattle.wire.proofs.Items.{bytes-append}
@@ -33,7 +33,7 @@ cutEach-proper (d ∷ ds) a h k =
     (cutEach-proper ds a (h .1) k)
 
 module _ {half : ℕ} {work : List ℕ} {n : ℕ} {a : Region} {first : ℕ} {work₁ : List ℕ} {m : ℕ} (st : Stands n work) (ok : Proper a)
-    (room : half + half ≤ length work) (half-fits : boxSize * places ≤ half) (few : n ≤ places) (u : Untouched n work a first)
+    (room : half + half ≤ length work) (half-fits : boxSize * capacity ≤ half) (few : n ≤ capacity) (u : Untouched n work a first)
     (s : Stored half work first (cutEach (drop first (boxesIn n work)) a) work₁ m) where
   later-proper : Each Proper (cutEach (drop first (boxesIn n work)) a)
   later-proper = cutEach-proper (drop first (boxesIn n work)) a (each-drop Proper first (boxesIn n work) (st .each)) ok
@@ -50,14 +50,14 @@ module _ {half : ℕ} {work : List ℕ} {n : ℕ} {a : Region} {first : ℕ} {wo
   behind = ap (drop (half + half)) (s .bytes) ∙ drop-store half (half + half) work first (cutEach (drop first (boxesIn n work)) a) (omega arith) later-fits
 
   -- More than a half holds: they are not copied down.
-  pub taken-over : places < m → Taken half work n a work₁ m
+  pub taken-over : capacity < m → Taken half work n a work₁ m
   taken-over h = record { count = counted; pieces = λ k. absurd (omega arith); bytes = λ k. absurd (omega arith); beyond = behind }
 
-  module _ (h : m ≤ places) where
+  module _ (h : m ≤ capacity) where
     later-length : length (boxesBytes (cutEach (drop first (boxesIn n work)) a)) ≡ boxSize * m - boxSize * first
     later-length = boxesBytes-length (cutEach (drop first (boxesIn n work)) a) later-fits ∙ omega (arith, s .count)
 
-    -- The second half has their bytes from place `first` on.
+    -- The second half has their bytes, behind those of `first` others.
     stored : take (boxSize * m - boxSize * first) (drop (half + boxSize * first) work₁) ≡ boxesBytes (cutEach (drop first (boxesIn n work)) a)
     stored =
         let later : List Region = cutEach (drop first (boxesIn n work)) a in

@@ -11,14 +11,14 @@ ghost use mathlib.Core.Bool.{true};
 ghost use Prim.Native.Nat.{_+_, _*_, _≤_, _<_, min, max};
 ghost use lib.ListN.{length, take, drop};
 ghost use lib.Seq.{sets};
-ghost use Rattle.lists.specs.Lists.{every};
-ghost use Rattle.policy.specs.Fields.{fields, boxSize, recordSize, workSize};
-ghost use Rattle.policy.specs.Rules.{sound, Proper};
+ghost use Rattle.policy.specs.Fields.{fields, boxSize};
+ghost use Rattle.policy.specs.Rules.{Proper};
 ghost use Rattle.policy.specs.Values.{regionOf};
 ghost use Rattle.policy.specs.Steps.{partBelow, partAbove};
 ghost use Rattle.policy.specs.Cut.{share, cut, cutEach};
-ghost use Rattle.wire.specs.Records.{boxBytes, boxIn, boxesIn, rulesIn};
-ghost use Rattle.groups.specs.Steps.{WorkedOut, places, most, Stored, LaterStand, CutAt, FieldCut, Stands, Untouched, Taken};
+ghost use Rattle.policy.specs.Move.{alone};
+ghost use Rattle.wire.specs.Records.{boxBytes, boxIn, boxesIn};
+ghost use Rattle.groups.specs.Steps.{startAt, Workable, WorkedFrom, WorkedOut, capacity, storedMost, Stored, LaterStand, CutAt, FieldCut, Stands, Started, Untouched, Taken};
 
 pub const WORK_BYTES: usize = 2 * PIECES_MOST * BOX_BYTES;
 
@@ -56,8 +56,8 @@ struct Underway {
     stored: usize,
 }
 
-// The bytes of one box copied to another place.
-fn move_box(work: &mut [u8], from: usize, to: usize)
+// The bytes of the box that begins at `from`, copied to `to`.
+fn copy_box(work: &mut [u8], from: usize, to: usize)
     requires { ⌜ (from + boxSize ≤ length (now work)) × (to + boxSize ≤ length (now work)) ⌝ }
     ensures { λ r. ⌜ now (work .exit) ≡ sets (now (work .entry)) to (take boxSize (drop from (now (work .entry)))) ⌝ }
 {
@@ -68,29 +68,29 @@ fn move_box(work: &mut [u8], from: usize, to: usize)
     bytes::copy(&held, &mut work[to..to_end]);
 }
 
-// The box whose bytes stand at a place, stored behind m others.
+// The box that begins at `at`, stored behind m others.
 fn keep_box(work: &mut [u8], half: usize, m: usize, at: usize) -> usize
-    requires { ⌜ (half + boxSize * places ≤ length (now work)) × (m < most) × (at + boxSize ≤ length (now work)) ⌝ }
+    requires { ⌜ (half + boxSize * capacity ≤ length (now work)) × (m < storedMost) × (at + boxSize ≤ length (now work)) ⌝ }
     requires written { ⌜ take boxSize (drop at (now work)) ≡ boxBytes (boxIn (drop at (now work))) ⌝ }
     ensures { λ r. ⌜ Stored half (now (work .entry)) m (boxIn (drop at (now (work .entry))) ∷ []) (now (work .exit)) r ⌝ }
 {
     if m < PIECES_MOST {
-        move_box(work, at, half + BOX_BYTES * m);
+        copy_box(work, at, half + BOX_BYTES * m);
         return m + 1;
     }
     m + 1
 }
 
-// A part of the box that stands at a place, with the same later fields: stored behind m others, as a copy of that box with the fields up
+// A part of the box that begins at `at`, with the same later fields: stored behind m others, as a copy of that box with the fields up
 // to k put over it.
 fn store_part(work: &mut [u8], half: usize, m: usize, at: usize, k: usize, part: Box) -> usize
-    requires { ⌜ (half + boxSize * places ≤ length (now work)) × (m < most) × (at + boxSize ≤ length (now work)) × (k < fields) ⌝ }
+    requires { ⌜ (half + boxSize * capacity ≤ length (now work)) × (m < storedMost) × (at + boxSize ≤ length (now work)) × (k < fields) ⌝ }
     requires later { ⌜ LaterStand k (regionOf part) at (now work) ⌝ }
     ensures { λ r. ⌜ Stored half (now (work .entry)) m (regionOf part ∷ []) (now (work .exit)) r ⌝ }
 {
     if m < PIECES_MOST {
         let to = half + BOX_BYTES * m;
-        move_box(work, at, to);
+        copy_box(work, at, to);
         wire::put_fields(work, to, k + 1, part);
         return m + 1;
     }
@@ -128,7 +128,7 @@ fn store_high(
     done.stored
 }
 
-// Field k of the cut of the box that stands at a place: its low part and its high part stored, and the rest narrowed to the shared
+// Field k of the cut of the box that begins at `at`: its low part and its high part stored, and the rest narrowed to the shared
 // range.
 fn cut_field(
     work: &mut [u8],
@@ -138,7 +138,7 @@ fn cut_field(
     k: usize,
     ends: Ends,
 ) -> Underway
-    requires { ⌜ CutAt half (now work) at done k ends × (done .stored + 1 < most) ⌝ }
+    requires { ⌜ CutAt half (now work) at done k ends × (done .stored + 1 < storedMost) ⌝ }
     ensures { λ r. ⌜ FieldCut half (now (work .entry)) done k ends (now (work .exit)) r ⌝ }
 {
     let rest = done.rest;
@@ -152,9 +152,9 @@ fn cut_field(
     Underway { rest, stored }
 }
 
-// What a leaves of d, where they share a packet: stored behind n others; how many boxes are then there. d stands at a place.
+// What a leaves of d, where they share a packet: stored behind n others; how many boxes are then there. d begins at `at`.
 fn cut_box(work: &mut [u8], half: usize, n: usize, at: usize, d: Box, a: Box) -> usize
-    requires { ⌜ (half + boxSize * places ≤ length (now work)) × (n + 2 * fields ≤ most) × (at + boxSize ≤ half) × (share (regionOf d) (regionOf a) ≡ true) ⌝ }
+    requires { ⌜ (half + boxSize * capacity ≤ length (now work)) × (n + 2 * fields ≤ storedMost) × (at + boxSize ≤ half) × (share (regionOf d) (regionOf a) ≡ true) ⌝ }
     requires written { ⌜ take boxSize (drop at (now work)) ≡ boxBytes (regionOf d) ⌝ }
     ensures { λ r. ⌜ Stored half (now (work .entry)) n (cut (regionOf d) (regionOf a)) (now (work .exit)) r ⌝ }
 {
@@ -185,9 +185,9 @@ fn cut_box(work: &mut [u8], half: usize, n: usize, at: usize, d: Box, a: Box) ->
     done.stored
 }
 
-// What a leaves of the box whose bytes stand at a place, stored behind m others.
+// What a leaves of the box that begins at `at`, stored behind m others.
 fn cut_piece(work: &mut [u8], half: usize, m: usize, at: usize, a: Box) -> usize
-    requires { ⌜ (half + boxSize * places ≤ length (now work)) × (m + 2 * fields ≤ most) × (at + boxSize ≤ half) ⌝ }
+    requires { ⌜ (half + boxSize * capacity ≤ length (now work)) × (m + 2 * fields ≤ storedMost) × (at + boxSize ≤ half) ⌝ }
     requires written { ⌜ take boxSize (drop at (now work)) ≡ boxBytes (boxIn (drop at (now work))) ⌝ }
     ensures { λ r. ⌜ Stored half (now (work .entry)) m (cut (boxIn (drop at (now (work .entry)))) (regionOf a)) (now (work .exit)) r ⌝ }
 {
@@ -214,9 +214,9 @@ fn first_touched(work: &[u8], n: usize, a: Box) -> usize
     i
 }
 
-// What a leaves of the pieces from the first one touched on, stored at the places from there on.
+// What a leaves of the pieces from the first one touched on, stored behind as many others as stand before it.
 fn cut_pieces(work: &mut [u8], half: usize, first: usize, n: usize, a: Box) -> usize
-    requires { ⌜ (half + boxSize * places ≤ length (now work)) × (boxSize * places ≤ half) × (n ≤ places) × (first ≤ n) ⌝ }
+    requires { ⌜ (half + boxSize * capacity ≤ length (now work)) × (boxSize * capacity ≤ half) × (n ≤ capacity) × (first ≤ n) ⌝ }
     requires standing { ⌜ Stands n (now work) ⌝ }
     ensures { λ r. ⌜ Stored half (now (work .entry)) first (cutEach (drop first (boxesIn n (now (work .entry)))) (regionOf a)) (now (work .exit)) r ⌝ }
 {
@@ -231,7 +231,7 @@ fn cut_pieces(work: &mut [u8], half: usize, first: usize, n: usize, a: Box) -> u
 
 // An allow taken from each of n pieces; how many are then there.
 fn take_allow(work: &mut [u8], half: usize, n: usize, a: Box) -> usize
-    requires { ⌜ (half + half ≤ length (now work)) × (boxSize * places ≤ half) × (n ≤ places) ⌝ }
+    requires { ⌜ (half + half ≤ length (now work)) × (boxSize * capacity ≤ half) × (n ≤ capacity) ⌝ }
     requires standing { ⌜ Stands n (now work) × Proper (regionOf a) ⌝ }
     ensures { λ r. ⌜ Taken half (now (work .entry)) n (regionOf a) (now (work .exit)) r ⌝ }
 {
@@ -244,18 +244,26 @@ fn take_allow(work: &mut [u8], half: usize, n: usize, a: Box) -> usize
     m
 }
 
-// The group of the deny rule at place i of the records.
-pub fn work_out(rules: &[u8], i: usize, work: &mut [u8]) -> Worked
-    requires { ⌜ (recordSize * (i + 1) ≤ length (now rules)) × (workSize ≤ length (now work)) × (every sound (rulesIn (i + 1) (now rules)) ≡ true) ⌝ }
-    ensures { λ r. ⌜ WorkedOut (now (rules .entry)) i (now (work .entry)) r (now (work .exit)) ⌝ }
+// What the group of the deny rule at place i starts with, put at the front of the work buffer; how many boxes that is.
+fn put_start(rules: &[u8], i: usize, work: &mut [u8]) -> usize
+    requires { ⌜ Workable (now rules) i (now work) ⌝ }
+    ensures { λ r. ⌜ Started (startAt alone i (now (rules .entry))) (now (work .entry)) r (now (work .exit)) ⌝ }
 {
     let start = wire::box_at(rules, RECORD_BYTES * i);
     wire::put_box(work, 0, start);
-    let mut n: usize = 1;
+    1
+}
+
+// Every allow before place i taken from the pieces, so many, that stand at the front of the work buffer.
+fn take_allows(rules: &[u8], i: usize, pieces: usize, work: &mut [u8]) -> Worked
+    requires { ⌜ Workable (now rules) i (now work) × (pieces ≤ capacity) × Stands pieces (now work) ⌝ }
+    ensures { λ r. ⌜ WorkedFrom (boxesIn pieces (now (work .entry))) (now (rules .entry)) i (now (work .entry)) r (now (work .exit)) ⌝ }
+{
+    let mut n = pieces;
     let mut j: usize = 0;
     while j < i {
         let rule = wire::rule_at(rules, RECORD_BYTES * j);
-        if rule.action == 1 {
+        if rule.is_allow() {
             n = take_allow(work, HALF_BYTES, n, rule.bounds);
             if PIECES_MOST < n {
                 return Worked::TooMany;
@@ -264,4 +272,13 @@ pub fn work_out(rules: &[u8], i: usize, work: &mut [u8]) -> Worked
         j += 1;
     }
     Worked::Boxes(n)
+}
+
+// The group of the deny rule at place i of the records.
+pub fn work_out(rules: &[u8], i: usize, work: &mut [u8]) -> Worked
+    requires { ⌜ Workable (now rules) i (now work) ⌝ }
+    ensures { λ r. ⌜ WorkedOut alone (now (rules .entry)) i (now (work .entry)) r (now (work .exit)) ⌝ }
+{
+    let n = put_start(rules, i, work);
+    take_allows(rules, i, n, work)
 }

@@ -11,7 +11,7 @@ use Rattle.lists.proofs.Lists.{append-none, sets-append}
 use Rattle.lists.proofs.Parts.{copied-sets}
 use Rattle.policy.specs.Fields.{boxSize, countSize, recordSize, actionSize, limits, workSize}
 use Rattle.policy.specs.Ranges.{Region}
-use Rattle.policy.specs.Rules.{Rule, rule, full, denies}
+use Rattle.policy.specs.Rules.{Rule, rule, full}
 use Rattle.policy.specs.Refusals.{accepted}
 use Rattle.policy.specs.Move.{together, denials, Pair, gateList}
 use Rattle.policy.specs.declared.Answer.the-variants.{Length, Refused}
@@ -23,21 +23,21 @@ use Rattle.wire.proofs.Numbers.{numberBytes-length, bytes-drop}
 use Rattle.wire.proofs.Records.{box-written-back, boxesIn-length, rulesIn-length, records-written-back}
 use Rattle.wire.proofs.Buffers.{filled-is, filled-front}
 use Rattle.sheet.specs.Pairs.{groupSize, groupBoxes}
-use Rattle.sheet.specs.Steps.{rulesOf, groupsFrom, pairOf, pairHeard, PairPlace, boxCount}
+use Rattle.sheet.specs.Steps.{groupsFrom, pairAt, pairHeard, PairLaid, boxCount}
+use Rattle.sheet.specs.declared.PairLayout.{PairLayout}
 use Rattle.sheet.specs.declared.PairParts.the-variants as P
 use Rattle.wire.proofs.Lists.{listBytes-length}
 use Rattle.sheet.proofs.Orders.{readable-fits}
-use Rattle.planner.specs.Calls.{checkOf, Call, cellBytes, gateBytes, gateListSize}
+use Rattle.promises.specs.Calls.{checkOf, Call, cellBytes, gateBytes, gateListSize}
 use Rattle.checking.specs.Steps.{CheckRead}
 use Rattle.listing.specs.Steps.{boxRecords, groupRecords, ListPut}
 use Rattle.policy.proofs.Places.{denials-length}
-use Rattle.planner.proofs.Good.{gate-list-good}
-use Rattle.planner.proofs.Calls.{call-done}
-use Rattle.planner.proofs.Finished.{refuses}
+use Rattle.promises.proofs.Good.{gate-list-good}
+use Rattle.promises.proofs.Calls.{call-done, refuses}
 use Rattle.wire.specs.Lists.{countIn, listBytes}
 use Rattle.wire.proofs.Items.{bytes-append}
 
--- the records of two lists, and the deny rules of two lists of boxes, one behind the other
+-- the deny rules of two lists of boxes, one behind the other
 denials-append : (x y : List Region) → denials (x ++ y) ≡ denials x ++ denials y
 unfolding denials
 denials-append [] y = refl
@@ -57,19 +57,19 @@ box-records-length (suc n) s h b =
     let l = denial-length s (omega arith) b in
     rw (length-append, l, i) (omega arith)
 
--- What is left to write leads to the whole: `rest` from `place` on to `all` from `at` on.
-pub record Leads (first : List ℕ) (at : ℕ) (all list : List ℕ) (place : ℕ) (rest : List ℕ) : Type 0 where
+-- What is left to write leads to the whole: `rest` from `to` on to `all` from `at` on.
+pub record Leads (first : List ℕ) (at : ℕ) (all list : List ℕ) (to : ℕ) (rest : List ℕ) : Type 0 where
   pub long : length list ≡ length first
-  pub onward : sets list place rest ≡ sets first at all
+  pub onward : sets list to rest ≡ sets first at all
 
 pub leads-first : (first : List ℕ) (at : ℕ) (all : List ℕ) → Leads first at all first at all
 leads-first first at all = record { long = refl; onward = refl }
 
-leads-next : {first all list list′ : List ℕ} {at place : ℕ} (x rest : List ℕ) → Leads first at all list place (x ++ rest) → list′ ≡ sets list place x
-    → Leads first at all list′ (place + length x) rest
-leads-next {list = list} {place = place} x rest g e = record {
-  long = ap length e ∙ (length-sets list place x ∙ g .long);
-  onward = rw e (sym (sets-append list place x rest) ∙ g .onward);
+leads-next : {first all list list′ : List ℕ} {at to : ℕ} (x rest : List ℕ) → Leads first at all list to (x ++ rest) → list′ ≡ sets list to x
+    → Leads first at all list′ (to + length x) rest
+leads-next {list = list} {to = to} x rest g e = record {
+  long = ap length e ∙ (length-sets list to x ∙ g .long);
+  onward = rw e (sym (sets-append list to x rest) ∙ g .onward);
 }
 
 -- one box more
@@ -77,9 +77,9 @@ box-more : (k : ℕ) (s : List ℕ) → boxRecords (suc k) s ≡ recordBytes (ru
 unfolding eachIn denials eachBytes
 box-more k s = refl
 
-pub denials-next : {first all list : List ℕ} {at place left : ℕ} (sheet : List ℕ) (start : ℕ) → Each Byte sheet → 0 < left → start + boxSize ≤ length sheet
-    → Leads first at all list place (boxRecords left (drop start sheet)) → {b : Region} {list′ : List ℕ} → b ≡ boxIn (drop start sheet) → list′ ≡ sets list place (recordBytes (rule b 0))
-    → Leads first at all list′ (place + recordSize) (boxRecords (left - 1) (drop (start + boxSize) sheet))
+pub denials-next : {first all list : List ℕ} {at to left : ℕ} (sheet : List ℕ) (start : ℕ) → Each Byte sheet → 0 < left → start + boxSize ≤ length sheet
+    → Leads first at all list to (boxRecords left (drop start sheet)) → {b : Region} {list′ : List ℕ} → b ≡ boxIn (drop start sheet) → list′ ≡ sets list to (recordBytes (rule b 0))
+    → Leads first at all list′ (to + recordSize) (boxRecords (left - 1) (drop (start + boxSize) sheet))
 denials-next {left = left} sheet start bytes more h g {b} {list′} e f =
     let t : List ℕ = drop start sheet in
     let later : List ℕ = boxRecords (left - 1) (drop (start + boxSize) sheet) in
@@ -128,9 +128,9 @@ module _ (sheet : List ℕ) (start : ℕ) {n left : ℕ} (e : n ≡ countIn (dro
   pub group-count : boxCount left (drop start sheet) ≡ n + boxCount (left - 1) later
   group-count = ap (λ (i : ℕ). boxCount i (drop start sheet)) left-is ∙ (group-boxes (left - 1) (drop start sheet) ∙ rw (behind, ← e) refl)
 
-  pub groups-next : {first all list : List ℕ} {at place : ℕ} → Each Byte sheet → start + countSize + boxSize * n ≤ length sheet
-      → Leads first at all list place (groupRecords left (drop start sheet)) → {list′ : List ℕ} → list′ ≡ sets list place (boxRecords n here)
-      → Leads first at all list′ (place + recordSize * n) (groupRecords (left - 1) later)
+  pub groups-next : {first all list : List ℕ} {at to : ℕ} → Each Byte sheet → start + countSize + boxSize * n ≤ length sheet
+      → Leads first at all list to (groupRecords left (drop start sheet)) → {list′ : List ℕ} → list′ ≡ sets list to (boxRecords n here)
+      → Leads first at all list′ (to + recordSize * n) (groupRecords (left - 1) later)
   groups-next bytes h g f =
       let v : groupRecords left (drop start sheet) ≡ boxRecords n here ++ groupRecords (left - 1) later =
       ap (λ (i : ℕ). groupRecords i (drop start sheet)) left-is ∙ (group-records (left - 1) (drop start sheet) ∙ rw (behind, drop-drop countSize start sheet, ← e) refl) in
@@ -138,12 +138,12 @@ module _ (sheet : List ℕ) (start : ℕ) {n left : ℕ} (e : n ≡ countIn (dro
       rw (← l) (leads-next (boxRecords n here) (groupRecords (left - 1) later) (rw v at g) f)
 
 -- nothing left
-pub denials-all : {first all list : List ℕ} {at place : ℕ} (left : ℕ) (s : List ℕ) → left ≤ 0 → Leads first at all list place (boxRecords left s) → list ≡ sets first at all
+pub denials-all : {first all list : List ℕ} {at to : ℕ} (left : ℕ) (s : List ℕ) → left ≤ 0 → Leads first at all list to (boxRecords left s) → list ≡ sets first at all
 unfolding eachIn denials eachBytes
 denials-all zero s h g = g .onward
 denials-all (suc left) s h g = absurd (omega arith)
 
-pub groups-all : {first all list : List ℕ} {at place : ℕ} (left : ℕ) (s : List ℕ) → left ≤ 0 → Leads first at all list place (groupRecords left s) → list ≡ sets first at all
+pub groups-all : {first all list : List ℕ} {at to : ℕ} (left : ℕ) (s : List ℕ) → left ≤ 0 → Leads first at all list to (groupRecords left s) → list ≡ sets first at all
 unfolding groupsFrom together denials eachBytes
 groups-all zero s h g = g .onward
 groups-all (suc left) s h g = absurd (omega arith)
@@ -158,48 +158,46 @@ three-filled out a b c last end most l h k q =
     filled-is (a ++ (b ++ c)) out (sets out 0 (a ++ (b ++ c))) last end most l h k (rw l (sym (copied-sets out (a ++ (b ++ c)) (omega arith)))) (rw s q)
 
 -- The cell list: the count, the groups' boxes, the own rules copied behind them, and zeros.
-module _ {s : List ℕ} {n m middle third boxes : ℕ} (p : PairPlace s n m middle third boxes) (bytes : Each Byte s) where
-  abbrev groups : ℕ
-  groups = denies (rulesOf n s)
-
+module _ {s : List ℕ} {l : PairLayout} (p : PairLaid s l) (bytes : Each Byte s) where
   abbrev pair : Pair
-  pair = pairOf n m middle third s
+  pair = pairAt l s
+
+  abbrev middle : ℕ
+  middle = l .order .middle
 
   abbrev own : List ℕ
-  own = take (third - (middle + countSize)) (drop (middle + countSize) s)
+  own = take (l .order .end - (middle + countSize)) (drop (middle + countSize) s)
 
-  own-records : recordsBytes (rulesOf m (drop middle s)) ≡ own
+  own-records : recordsBytes (pair .order .own) ≡ own
   own-records =
-      let l = p .lists in
-      let e : third - (middle + countSize) ≡ recordSize * m = omega (arith, l .ownEnd) in
-      rw (e, ← drop-drop countSize middle s) (records-written-back m (drop countSize (drop middle s)) (rw (length-drop, length-drop) (omega (arith, l .ownEnd, l .inside))) (bytes-drop countSize (drop middle s) (bytes-drop middle s bytes)))
+      let i = p .lists in
+      let e : l .order .end - (middle + countSize) ≡ recordSize * l .order .own = omega (arith, i .ownEnd) in
+      rw (e, ← drop-drop countSize middle s) (records-written-back (l .order .own) (drop countSize (drop middle s)) (rw (length-drop, length-drop) (omega (arith, i .ownEnd, i .inside))) (bytes-drop countSize (drop middle s) (bytes-drop middle s bytes)))
 
-  cell-content : cellBytes pair ≡ numberBytes countSize (boxes + m) ++ (groupRecords groups (drop (third + countSize) s) ++ own)
+  cell-content : cellBytes pair ≡ numberBytes countSize (l .boxes + l .order .own) ++ (groupRecords (l .groups) (drop (l .from) s) ++ own)
   unfolding cellBytes listBytes
   cell-content =
       let bs : List Region = together (pair .groups) in
-      let c : length (denials bs ++ rulesOf m (drop middle s)) ≡ boxes + m = rw (length-append, denials-length, rulesIn-length, ← p .boxesAre) refl in
-      rw (c, bytes-append recordBytes (denials bs) (rulesOf m (drop middle s)), own-records) refl
+      let c : length (denials bs ++ pair .order .own) ≡ l .boxes + l .order .own = rw (length-append, denials-length, rulesIn-length, ← p .boxesAre) refl in
+      rw (c, bytes-append recordBytes (denials bs) (pair .order .own), own-records) refl
 
   -- the groups lie in the sheet, and have all its boxes
-  pub cell-groups : (g : ℕ) → g ≡ groups
-      → (third + countSize + (countSize * g + boxSize * boxCount g (drop (third + countSize) s)) ≤ length s) × (boxCount g (drop (third + countSize) s) ≡ boxes)
-  cell-groups g e = rw e (omega (arith, p .end, p .boxesAre), sym (p .boxesAre))
+  pub cell-groups : (l .from + (countSize * l .groups + boxSize * boxCount (l .groups) (drop (l .from) s)) ≤ length s) × (boxCount (l .groups) (drop (l .from) s) ≡ l .boxes)
+  cell-groups = (omega (arith, p .groupsEnd, p .whole, p .boxesAre), sym (p .boxesAre))
 
-  pub cell-put : (list c₁ c₂ c₃ last : List ℕ) (g start end most : ℕ) → g ≡ groups → start ≡ countSize + recordSize * boxes → end ≡ start + length own → end ≤ most → most ≤ length list
-      → c₁ ≡ sets list 0 (numberBytes countSize (boxes + m)) → c₂ ≡ sets c₁ countSize (groupRecords g (drop (third + countSize) s))
+  pub cell-put : (list c₁ c₂ c₃ last : List ℕ) (start end most : ℕ) → start ≡ countSize + recordSize * l .boxes → end ≡ start + length own → end ≤ most → most ≤ length list
+      → c₁ ≡ sets list 0 (numberBytes countSize (l .boxes + l .order .own)) → c₂ ≡ sets c₁ countSize (groupRecords (l .groups) (drop (l .from) s))
       → c₃ ≡ sets c₂ start own → last ≡ zeroed end most c₃ → ListPut (cellBytes pair) most list end last
-  cell-put list c₁ c₂ c₃ last g start end most d i j h k e f₀ u q =
-      let head : List ℕ = numberBytes countSize (boxes + m) in
-      let boxed : List ℕ = groupRecords groups (drop (third + countSize) s) in
-      let f : c₂ ≡ sets c₁ countSize boxed = f₀ ∙ rw d refl in
-      let lb : length boxed ≡ recordSize * boxes = rw (p .boxesAre) (group-records-length groups (drop (third + countSize) s) (rw length-drop (omega (arith, p .end, p .boxesAre))) (bytes-drop (third + countSize) s bytes)) in
-      let lh : length head ≡ countSize = numberBytes-length countSize (boxes + m) in
+  cell-put list c₁ c₂ c₃ last start end most i j h k e f u q =
+      let head : List ℕ = numberBytes countSize (l .boxes + l .order .own) in
+      let boxed : List ℕ = groupRecords (l .groups) (drop (l .from) s) in
+      let lb : length boxed ≡ recordSize * l .boxes = rw (p .boxesAre) (group-records-length (l .groups) (drop (l .from) s) (rw length-drop (omega (arith, cell-groups))) (bytes-drop (l .from) s bytes)) in
+      let lh : length head ≡ countSize = numberBytes-length countSize (l .boxes + l .order .own) in
       let w : sets c₂ start own ≡ sets (sets (sets list 0 head) (length head) boxed) (length head + length boxed) own =
-      let x : length head + length boxed ≡ start = omega arith in
+      let x : length head + length boxed ≡ start = omega (arith, i) in
       rw (x, f, e, lh) refl in
-      let l : end ≡ length (head ++ (boxed ++ own)) = sym (rw (length-append, length-append) (omega arith)) in
-      record { answer = rw cell-content l; result = rw cell-content (three-filled list head boxed own last end most l h k (rw (← w, ← u) q)) }
+      let n : end ≡ length (head ++ (boxed ++ own)) = sym (rw (length-append, length-append) (omega (arith, i, j))) in
+      record { answer = rw cell-content n; result = rw cell-content (three-filled list head boxed own last end most n h k (rw (← w, ← u) q)) }
 
 -- The gate list: the count and the one rule, which fill it.
 pub gate-put : (p : Pair) (list c₁ last : List ℕ) (r : Rule) → gateListSize ≤ length list → r ≡ rule full 1 → c₁ ≡ sets list 0 (numberBytes countSize 1)
@@ -218,7 +216,7 @@ module _ (bytes : Pair → List ℕ) (size : ℕ) (lent : Bool) (s out w : List 
   unfolding pairHeard
   list-refused {f} x = call-done bytes size lent (checkOf limits s) out w h (refuses bytes size (checkOf limits s) out w w f (sym (x .says)) refl) e
 
-  pub list-written : {n m middle third boxes r : ℕ} {out′ : List ℕ} → CheckRead s (P.Parts n m middle third boxes) → ListPut (bytes (pairOf n m middle third s)) size out r out′
+  pub list-written : {l : PairLayout} {r : ℕ} {out′ : List ℕ} → CheckRead s (P.Parts l) → ListPut (bytes (pairAt l s)) size out r out′
       → Call bytes size lent (checkOf limits s) out w (Length r) out′ w′
   unfolding pairHeard lengthOf written
   list-written x y =

@@ -10,6 +10,7 @@ use policy::RECORD_BYTES;
 use policy::Refusal;
 use policy::Rule;
 use policy::TOTAL_MOST;
+use sheet::PairLayout;
 use sheet::PairParts;
 ghost use mathlib.Core.Path.{_≡_};
 ghost use Prim.Native.Nat.{_+_, _*_, _≤_};
@@ -18,8 +19,8 @@ ghost use lib.Seq.{sets};
 ghost use Rattle.policy.specs.Fields.{boxSize, countSize, recordSize};
 ghost use Rattle.policy.specs.Rules.{rule, full};
 ghost use Rattle.policy.specs.Values.{ruleOf};
-ghost use Rattle.sheet.specs.Steps.{pairOf, PairPlace, boxCount};
-ghost use Rattle.planner.specs.Calls.{Lists, cellBytes, cellListSize, gateBytes, gateListSize};
+ghost use Rattle.sheet.specs.Steps.{pairAt, PairLaid, boxCount};
+ghost use Rattle.promises.specs.Calls.{Lists, cellBytes, cellListSize, gateBytes, gateListSize};
 ghost use Rattle.listing.specs.Steps.{boxRecords, groupRecords, ListPut};
 
 // What the cell list and the gate list are lent at least.
@@ -27,69 +28,63 @@ pub const CELL_LIST_BYTES: usize = COUNT_BYTES + RECORD_BYTES * TOTAL_MOST;
 
 pub const GATE_LIST_BYTES: usize = COUNT_BYTES + RECORD_BYTES;
 
-// The n boxes from a place of the sheet on, as deny records from a place of the list on.
-fn deny_boxes(list: &mut [u8], at: usize, sheet: &[u8], from: usize, n: usize)
-    requires { ⌜ (from + boxSize * n ≤ length (now sheet)) × (at + recordSize * n ≤ length (now list)) ⌝ }
-    ensures { λ r. ⌜ now (list .exit) ≡ sets (now (list .entry)) at (boxRecords n (drop from (now (sheet .entry)))) ⌝ }
+// The n boxes that the sheet has from `from` on, as deny records in the list from `at` on.
+fn deny_boxes(out: &mut [u8], at: usize, sheet: &[u8], from: usize, n: usize)
+    requires { ⌜ (from + boxSize * n ≤ length (now sheet)) × (at + recordSize * n ≤ length (now out)) ⌝ }
+    ensures { λ r. ⌜ now (out .exit) ≡ sets (now (out .entry)) at (boxRecords n (drop from (now (sheet .entry)))) ⌝ }
 {
     let mut start = from;
-    let mut place = at;
+    let mut to = at;
     let mut left = n;
     while 0 < left {
         let bounds = wire::box_at(sheet, start);
-        wire::put_rule(list, place, Rule { bounds, action: 0 });
+        wire::put_rule(out, to, Rule { bounds, action: 0 });
         start += BOX_BYTES;
-        place += RECORD_BYTES;
+        to += RECORD_BYTES;
         left -= 1;
     }
 }
 
-// The boxes of so many groups from a place of the sheet on, as deny records from a place of the list on.
-fn deny_groups(list: &mut [u8], at: usize, sheet: &[u8], from: usize, groups: usize)
-    requires { ⌜ (from + (countSize * groups + boxSize * boxCount groups (drop from (now sheet))) ≤ length (now sheet)) × (at + recordSize * boxCount groups (drop from (now sheet)) ≤ length (now list)) ⌝ }
-    ensures { λ r. ⌜ now (list .exit) ≡ sets (now (list .entry)) at (groupRecords groups (drop from (now (sheet .entry)))) ⌝ }
+// The boxes of so many groups, which the sheet has from `from` on, as deny records in the list from `at` on.
+fn deny_groups(out: &mut [u8], at: usize, sheet: &[u8], from: usize, groups: usize)
+    requires { ⌜ (from + (countSize * groups + boxSize * boxCount groups (drop from (now sheet))) ≤ length (now sheet)) × (at + recordSize * boxCount groups (drop from (now sheet)) ≤ length (now out)) ⌝ }
+    ensures { λ r. ⌜ now (out .exit) ≡ sets (now (out .entry)) at (groupRecords groups (drop from (now (sheet .entry)))) ⌝ }
 {
     let mut start = from;
-    let mut place = at;
+    let mut to = at;
     let mut more = groups;
     while 0 < more {
         let n = wire::count_at(sheet, start);
         start += COUNT_BYTES;
-        deny_boxes(list, place, sheet, start, n);
+        deny_boxes(out, to, sheet, start, n);
         start += BOX_BYTES * n;
-        place += RECORD_BYTES * n;
+        to += RECORD_BYTES * n;
         more -= 1;
     }
 }
 
-// The cell list of a pair sheet whose parts are these, and zeros behind it; its length.
-fn put_cell_list(
-    list: &mut [u8],
-    sheet: &[u8],
-    gate: usize,
-    own: usize,
-    middle: usize,
-    third: usize,
-    boxes: usize,
-) -> usize
-    requires { ⌜ PairPlace (now sheet) gate own middle third boxes × (cellListSize ≤ length (now list)) ⌝ }
-    ensures { λ r. ⌜ ListPut (cellBytes (pairOf gate own middle third (now (sheet .entry)))) cellListSize (now (list .entry)) r (now (list .exit)) ⌝ }
+// The cell list of a pair sheet of this layout, and zeros behind it; its length.
+fn put_cell_list(out: &mut [u8], sheet: &[u8], layout: PairLayout) -> usize
+    requires { ⌜ PairLaid (now sheet) layout × (cellListSize ≤ length (now out)) ⌝ }
+    ensures { λ r. ⌜ ListPut (cellBytes (pairAt layout (now (sheet .entry)))) cellListSize (now (out .entry)) r (now (out .exit)) ⌝ }
 {
-    wire::put_count(list, 0, boxes + own);
-    let groups = sheet::count_denies(sheet, gate);
-    deny_groups(list, COUNT_BYTES, sheet, third + COUNT_BYTES, groups);
+    let boxes = layout.boxes;
+    let own = layout.order.own;
+    let first = layout.order.middle + COUNT_BYTES;
+    let behind = layout.order.end;
+    wire::put_count(out, 0, boxes + own);
+    deny_groups(out, COUNT_BYTES, sheet, layout.from, layout.groups);
     let start = COUNT_BYTES + RECORD_BYTES * boxes;
-    let first = middle + COUNT_BYTES;
-    let end = wire::put_bytes(list, start, &sheet[first..third]);
-    wire::zero(list, end, CELL_LIST_BYTES);
+    let end = wire::put_bytes(out, start, &sheet[first..behind]);
+    wire::zero(out, end, CELL_LIST_BYTES);
     end
 }
 
 // Cell list: check, then every group's boxes as deny rules and the own rules; the answer is the list's length.
-pub fn cell_list(sheet: &[u8], list: &mut [u8], work: &mut [u8]) -> Answer
-    ensures { λ r. ⌜ Lists cellBytes cellListSize (now (sheet .entry)) (now (list .entry)) (now (work .entry)) r (now (list .exit)) (now (work .exit)) ⌝ }
+pub fn cell_list(sheet: &[u8], out: &mut [u8], work: &mut [u8]) -> Answer
+    ensures { λ r. ⌜ Lists cellBytes cellListSize (now (sheet .entry)) (now (out .entry)) (now (work .entry)) r (now (out .exit)) (now (work .exit)) ⌝ }
 {
-    if list.len() < CELL_LIST_BYTES {
+    if out.len() < CELL_LIST_BYTES {
         return Answer::Refused(Refusal::BufferShort);
     }
     if work.len() < WORK_BYTES {
@@ -97,13 +92,7 @@ pub fn cell_list(sheet: &[u8], list: &mut [u8], work: &mut [u8]) -> Answer
     }
     match checking::checked(sheet, work) {
         PairParts::Refused(f) => Answer::Refused(f),
-        PairParts::Parts {
-            gate,
-            own,
-            middle,
-            third,
-            boxes,
-        } => Answer::Length(put_cell_list(list, sheet, gate, own, middle, third, boxes)),
+        PairParts::Parts(layout) => Answer::Length(put_cell_list(out, sheet, layout)),
     }
 }
 
@@ -120,10 +109,10 @@ fn allow_all() -> Rule
 }
 
 // Gate list: check, then one full allow rule, which takes all that is lent at least; the answer is the list's length.
-pub fn gate_list(sheet: &[u8], list: &mut [u8], work: &mut [u8]) -> Answer
-    ensures { λ r. ⌜ Lists gateBytes gateListSize (now (sheet .entry)) (now (list .entry)) (now (work .entry)) r (now (list .exit)) (now (work .exit)) ⌝ }
+pub fn gate_list(sheet: &[u8], out: &mut [u8], work: &mut [u8]) -> Answer
+    ensures { λ r. ⌜ Lists gateBytes gateListSize (now (sheet .entry)) (now (out .entry)) (now (work .entry)) r (now (out .exit)) (now (work .exit)) ⌝ }
 {
-    if list.len() < GATE_LIST_BYTES {
+    if out.len() < GATE_LIST_BYTES {
         return Answer::Refused(Refusal::BufferShort);
     }
     if work.len() < WORK_BYTES {
@@ -131,15 +120,9 @@ pub fn gate_list(sheet: &[u8], list: &mut [u8], work: &mut [u8]) -> Answer
     }
     match checking::checked(sheet, work) {
         PairParts::Refused(f) => Answer::Refused(f),
-        PairParts::Parts {
-            gate: _,
-            own: _,
-            middle: _,
-            third: _,
-            boxes: _,
-        } => {
-            wire::put_count(list, 0, 1);
-            wire::put_rule(list, COUNT_BYTES, allow_all());
+        PairParts::Parts(_) => {
+            wire::put_count(out, 0, 1);
+            wire::put_rule(out, COUNT_BYTES, allow_all());
             Answer::Length(GATE_LIST_BYTES)
         }
     }

@@ -1,4 +1,4 @@
--- A loop over two lists side by side: what it knows at place k of a test of both. Assumes nothing.
+-- A loop over two lists side by side: what it knows at turn k of a test of both. Assumes nothing.
 use mathlib.Core.Path.{_≡_, ap, sym, _∙_}
 use mathlib.Core.List.{List}
 use mathlib.Core.Bool.{Bool, true, false, not, _&&_}

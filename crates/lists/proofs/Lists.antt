@@ -22,7 +22,7 @@ pub some-few : {A : Type 0} (t : Bool) (a : A) (n : ℕ) → (t ≡ true → 1 �
 some-few true a n h = h refl
 some-few false a n h = omega arith
 
--- A list is its part before a place, a stretch of n, and the rest.
+-- A list is its first part, a stretch of n, and the rest.
 pub three-parts {ℓ} : {A : Type ℓ} (i n : ℕ) (l : List A) → take i l ++ (take n (drop i l) ++ drop n (drop i l)) ≡ l
 three-parts i n l = rw (take-append-drop n (drop i l), take-append-drop i l)
 

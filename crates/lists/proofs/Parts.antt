@@ -25,7 +25,7 @@ module _ {A : Type 0} where
         let e : length (drop m c) ≤ length c - m = rw length-drop (omega arith) in
         rw (drop-of-length-le (drop m c) e, append-none y)
 
-  -- stores at the front of the part are stores at its place
+  -- stores at the front of the part are stores where it begins
   pub tail-sets : (c : List A) (m : ℕ) (v : List A) → m + length v ≤ length c
       → take m c ++ (sets (take (length c - m) (drop m c)) 0 v ++ drop (length c - m) (drop m c)) ≡ sets c m v
   tail-sets c m v h =
@@ -34,7 +34,7 @@ module _ {A : Type 0} where
       ∙ rw (tail-whole c m (omega arith), sets-eq v (drop m c) 0 (rw length-drop (omega arith)), sets-eq v c m h, z, drop-drop (length v) m c)
       (sym (append-assoc (take m c) v (drop (m + length v) c)))
 
-  -- a copy to the part is stores at its place
+  -- a copy to the part is stores where it begins
   pub copy-put : (c y v : List A) (m : ℕ) → m + length v ≤ length c
       → y ≡ take (length v) v ++ drop (length v) (take (length c - m) (drop m c))
       → take m c ++ (y ++ drop (length c - m) (drop m c)) ≡ sets c m v

@@ -11,7 +11,7 @@ unfoldable pub every : {A : Type 0} → (A → Bool) → List A → Bool
 every f [] = true
 every f (a ∷ l) = f a && every f l
 
--- As many elements in both lists, and the test holds of each two that stand at one place.
+-- As many elements in both lists, and the test holds of each two that stand side by side.
 unfoldable pub everyBoth : {A B : Type 0} → (A → B → Bool) → List A → List B → Bool
 everyBoth f [] [] = true
 everyBoth f [] (b ∷ k) = false

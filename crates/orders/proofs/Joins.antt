@@ -19,7 +19,7 @@ use Rattle.wire.specs.Buffers.{roomFor, filled, written, lengthOf}
 use Rattle.sheet.specs.Orders.{orderBytes, orderSize}
 use Rattle.wire.proofs.Buffers.{refusal-leaves}
 use Rattle.orders.specs.Join.{Join, joinOf}
-use Rattle.sheet.specs.Steps.{ListPlace, OfRules, ListRead}
+use Rattle.sheet.specs.Steps.{ListLaid, OfRules, ListRead}
 use Rattle.sheet.specs.declared.Section.{Section}
 use Rattle.sheet.specs.declared.Section.the-variants as S
 use Rattle.sheet.proofs.Parts.{bytes-of, part-from}
@@ -46,17 +46,17 @@ filled-both out first second copied part m n e h g u v =
     let r : n - m - length second ≡ n - length (first ++ second) = omega arith in
     rw (t, z, append-nil, y, append-assoc, r) refl
 
-list-place : {most : ℕ} {s : List ℕ} {r : Section} → ListRead most s r → (n next : ℕ) → r ≡ S.Rules n next → ListPlace most s n next
+list-laid : {most : ℕ} {s : List ℕ} {r : Section} → ListRead most s r → (n next : ℕ) → r ≡ S.Rules n next → ListLaid most s n next
 unfolding OfRules
-list-place x n next e = rw e at (x .place)
+list-laid x n next e = rw e at (x .laid)
 
 -- Both lists fit the sheet.
 module _ {a b : List ℕ} {r q : Section} (x : ListRead (limits .gate) a r) (y : ListRead (limits .own) b q)
     (n m : ℕ) (e : r ≡ S.Rules n m) (j k : ℕ) (f : q ≡ S.Rules j k) where
   pub both-fit : length a + length b ≤ orderSize
   both-fit =
-      let p = list-place x n m e in
-      let o = list-place y j k f in
+      let p = list-laid x n m e in
+      let o = list-laid y j k f in
       omega arith
 
 module _ (a b out : List ℕ) where

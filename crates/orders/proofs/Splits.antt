@@ -19,7 +19,8 @@ use Rattle.wire.specs.Buffers.{roomFor, filled, written, lengthOf}
 use Rattle.sheet.specs.Orders.{orderIn, gateSize, ownSize}
 use Rattle.wire.proofs.Buffers.{refusal-leaves}
 use Rattle.orders.specs.Split.{Split, splitOf, firstBytes, secondBytes}
-use Rattle.sheet.specs.Steps.{ListsPlace, OrderPlaced, OrderRead}
+use Rattle.sheet.specs.Steps.{OfOrder, OrderLaid, OrderRead}
+use Rattle.sheet.specs.declared.OrderLayout.{OrderLayout}
 use Rattle.sheet.specs.declared.OrderParts.{OrderParts}
 use Rattle.sheet.specs.declared.OrderParts.the-variants as O
 use Rattle.sheet.proofs.Parts.{bytes-of, part-from}
@@ -31,22 +32,25 @@ pub split-once :
 split-once {r = r} {q = q} x y = (said-once r q (x .answer ∙ sym (y .answer)), x .gate ∙ sym (y .gate), x .own ∙ sym (y .own))
 
 -- The two parts of an accepted sheet fit the lists.
-module _ {s : List ℕ} {r : OrderParts} (x : OrderRead s r) (n m middle : ℕ) (e : r ≡ O.Parts n m middle) where
-  place : ListsPlace s n m middle (length s)
-  unfolding OrderPlaced
-  place = rw e at (x .place)
+module _ {s : List ℕ} {r : OrderParts} (x : OrderRead s r) (l : OrderLayout) (e : r ≡ O.Parts l) where
+  abbrev middle : ℕ
+  middle = l .middle
+
+  laid : OrderLaid s l
+  unfolding OfOrder
+  laid = rw e at (x .laid)
 
   pub middle-within : middle ≤ length s
-  middle-within = let p = place in omega arith
+  middle-within = let p = laid in omega arith
 
   pub gate-long : middle ≡ length (take middle s)
   gate-long = sym (length-take-le middle s middle-within)
 
   pub gate-fits : length (take middle s) ≤ gateSize
-  gate-fits = let p = place in omega (arith, gate-long)
+  gate-fits = let p = laid in omega (arith, gate-long)
 
   pub own-fits : length (take (length s - middle) (drop middle s)) ≤ ownSize
-  own-fits = let p = place in rw (part-from s middle, length-drop middle s) (omega arith)
+  own-fits = let p = laid in rw (part-from s middle, length-drop middle s) (omega arith)
 
 module _ (s a b : List ℕ) where
   refusing : (f : Refusal) → splitOf limits s a b ≡ refused (numberOf f) → Split s a b (Refused f) a b
@@ -71,14 +75,14 @@ module _ (s a b : List ℕ) where
       split-refusal f e = refusing f (roomy ∙ order-refused z f e)
 
       pub split-done :
-          ((i : ℕ) → Fits w8 (getD s i 0)) → (n m middle : ℕ) → r ≡ O.Parts n m middle
-          → {a′ b′ : List ℕ} → a′ ≡ filled gateSize a (take middle s) → b′ ≡ filled ownSize b (take (length s - middle) (drop middle s))
-          → Split s a b (Length middle) a′ b′
+          ((i : ℕ) → Fits w8 (getD s i 0)) → (l : OrderLayout) → r ≡ O.Parts l
+          → {a′ b′ : List ℕ} → a′ ≡ filled gateSize a (take (l .middle) s) → b′ ≡ filled ownSize b (take (length s - l .middle) (drop (l .middle) s))
+          → Split s a b (Length (l .middle)) a′ b′
       unfolding lengthOf written
-      split-done f n m middle e u v =
-          let o = order-accepted z (bytes-of s f) n m middle e in
+      split-done f l e u v =
+          let o = order-accepted z (bytes-of s f) l e in
           record {
-            answer = rw (roomy ∙ o .reads, o .gateBytes) (ap accepted (gate-long z n m middle e));
+            answer = rw (roomy ∙ o .reads, o .gateBytes) (ap accepted (gate-long z l e));
             gate = rw (roomy ∙ o .reads, o .gateBytes) u;
-            own = rw (roomy ∙ o .reads, o .ownBytes) (rw (part-from s middle) at v);
+            own = rw (roomy ∙ o .reads, o .ownBytes) (rw (part-from s (l .middle)) at v);
           }

@@ -28,11 +28,8 @@ pub fn split(sheet: &[u8], a: &mut [u8], b: &mut [u8]) -> Answer
     }
     match sheet::read_order(sheet) {
         OrderParts::Refused(f) => Answer::Refused(f),
-        OrderParts::Parts {
-            gate: _,
-            own: _,
-            middle,
-        } => {
+        OrderParts::Parts(layout) => {
+            let middle = layout.middle;
             wire::fill(a, GATE_BYTES, &sheet[..middle]);
             wire::fill(b, OWN_BYTES, &sheet[middle..]);
             Answer::Length(middle)

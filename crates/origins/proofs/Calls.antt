@@ -15,35 +15,36 @@ use Rattle.policy.specs.declared.Refusal.{Refusal}
 use Rattle.policy.specs.declared.Refusal.the-variants.{BufferShort}
 use Rattle.policy.proofs.Answers.{said-once, test-accepted}
 use Rattle.wire.specs.Buffers.{zeroed, written}
-use Rattle.sheet.specs.Steps.{pairHeard, PairPlaced}
+use Rattle.sheet.specs.Steps.{pairAt, pairHeard}
+use Rattle.sheet.specs.declared.PairLayout.{PairLayout}
 use Rattle.sheet.specs.declared.PairParts.the-variants as P
 use Rattle.sheet.proofs.Outcomes.{readable, through}
-use Rattle.planner.specs.Calls.{workAfter, bothLent, checkOf}
-use Rattle.planner.proofs.Calls.{room-short, work-short, both-there}
+use Rattle.promises.specs.Calls.{workAfter, bothLent, checkOf}
+use Rattle.promises.proofs.Calls.{room-short, work-short, both-there}
 use Rattle.checking.specs.Steps.{CheckRead}
+use Rattle.checking.proofs.Checking.{check-laid}
 use Rattle.filter.specs.Lookup.{lookupNumber}
 use Rattle.origins.specs.Origin.{Decision, originOf, originSize, originCall, valueOf, Origins}
-use Rattle.origins.specs.Steps.{laidOut, Checked, traceHeard, Traced, Small, TraceTold}
-use Rattle.origins.specs.declared.Layout.{Layout}
+use Rattle.origins.specs.Steps.{Checked, traceHeard, Traced, TraceSmall, TraceTold}
 use Rattle.origins.specs.declared.Trace.{Trace}
 use Rattle.origins.specs.declared.Trace.the-variants.{Gate, Own, Nowhere}
 use Rattle.origins.proofs.Deciding.{good, decided}
 
--- the parts that check gives
-pub check-laid : {s : List ℕ} (l : Layout) → CheckRead s (P.Parts (l .gate) (l .own) (l .middle) (l .third) (l .boxes)) → Checked s l
-unfolding pairHeard PairPlaced
-check-laid l x = record { checks = sym (x .says); place = x .place }
+-- a sheet whose layout check answers
+pub passes-check : {s : List ℕ} {l : PairLayout} → CheckRead s (P.Parts l) → Checked s l
+unfolding pairHeard
+passes-check x = record { checks = sym (x .says); laid = check-laid x }
 
 -- a trace's numbers are those of a place of the cell list
-pub traced-small : {s : List ℕ} {l : Layout} → Checked s l → (p : Packet) (t : Trace) → Traced p (laidOut l s) t → Small t
-unfolding traceHeard Small HasOrigin placeOf
+pub traced-small : {s : List ℕ} {l : PairLayout} → Checked s l → (p : Packet) (t : Trace) → Traced p (pairAt l s) t → TraceSmall t
+unfolding traceHeard TraceSmall HasOrigin placeOf
 traced-small {s} {l} c p (Gate rule number place) x =
-    let d = decided s (laidOut l s) (c .checks) p _ (sym (x .says)) in
-    let g = readable (limits .gate) _ (good s (laidOut l s) (c .checks) .gate) in
+    let d = decided s (pairAt l s) (c .checks) p _ (sym (x .says)) in
+    let g = readable (limits .gate) _ (good s (pairAt l s) (c .checks) .gate) in
     (omega (arith, d .has .0, g .many), omega (arith, d .place, d .back), d .place)
 traced-small {s} {l} c p (Own passed rule place action) x =
-    let d = decided s (laidOut l s) (c .checks) p _ (sym (x .says)) in
-    let g = readable (limits .own) _ (good s (laidOut l s) (c .checks) .own) in
+    let d = decided s (pairAt l s) (c .checks) p _ (sym (x .says)) in
+    let g = readable (limits .own) _ (good s (pairAt l s) (c .checks) .own) in
     (omega (arith, d .has, g .many), d .place, d .action)
 traced-small c p Nowhere x = tt
 
@@ -66,7 +67,7 @@ module _ (p : Packet) (s ns w : List ℕ) where
     unfolding originCall originOf valueOf written workAfter pairHeard
     origin-refused x = record { answer = rw (lent, ← x .says) refl; numbers = rw (lent, ← x .says) refl; work = rw lent clear }
 
-    pub origin-told : {l : Layout} → Checked s l → {t : Trace} → Traced p (laidOut l s) t → {r : Answer} {ns′ : List ℕ} → TraceTold t ns r ns′ → Origins p s ns w r ns′ w′
+    pub origin-told : {l : PairLayout} → Checked s l → {t : Trace} → Traced p (pairAt l s) t → {r : Answer} {ns′ : List ℕ} → TraceTold t ns r ns′ → Origins p s ns w r ns′ w′
     unfolding originCall originOf workAfter
     origin-told c x y = record {
       answer = rw (lent, c .checks, ← x .says) (y .answer);

@@ -1,15 +1,17 @@
 -- Whose rule decides on a sheet that passes check: a box of the gate's rule, an own rule, or none. Assumes nothing.
 use mathlib.Core.Path.{_≡_, refl, ap, sym, _∙_, subst}
-use mathlib.Core.List.{List, []}
+use mathlib.Core.List.{List, [], _∷_}
 use mathlib.Core.Bool.{Bool, true, false}
-use Prim.Native.Nat.{ℕ, _<_, _≤_}
+use Prim.Native.Nat.{ℕ, zero, suc, _<_, _≤_}
 use native.Mathlib.Omega.{arith}
 use lib.Dec.{ltb}
-use lib.ListN.{length, getD}
+use lib.ListN.{length, getD, take}
 use borrow.Author.Tests.{ltb-true, ltb-false}
-use Rattle.policy.specs.Fields.{limits}
-use Rattle.policy.specs.Ranges.{Packet}
-use Rattle.policy.specs.Rules.{rule, complete, Found, found, nothing, firstFrom, first, saysDrop, inLimits}
+use Rattle.lists.specs.Lists.{Each, every}
+use Rattle.lists.proofs.Lists.{each-every}
+use Rattle.policy.specs.Fields.{limits, highest}
+use Rattle.policy.specs.Ranges.{Packet, Whole, proper}
+use Rattle.policy.specs.Rules.{rule, denies, complete, Found, found, nothing, firstFrom, first, saysDrop, inLimits}
 use Rattle.policy.specs.Refusals.{accepted, refused, rulesRefusal}
 use Rattle.policy.specs.Move.{Pair, together, cellList}
 use Rattle.policy.specs.Demands.{groupAt}
@@ -17,14 +19,14 @@ use Rattle.policy.specs.Origins.{Origin, gateRule, ownRule, originAt, placeOf, 
 use Rattle.policy.specs.Steps.{boxNumber}
 use Rattle.policy.proofs.Refused.{listRefusal}
 use Rattle.policy.proofs.Edits.{list-accepted}
-use Rattle.policy.proofs.Moves.{above-from, nothing-above}
+use Rattle.policy.proofs.Moves.{proper-whole, above-from, nothing-above}
 use Rattle.policy.proofs.Places.{place-back}
 use Rattle.policy.proofs.Origins.{regions, first-found, first-nothing, own-decides, box-there, box-decides}
 use Rattle.sheet.proofs.Outcomes.{readable}
-use Rattle.sheet.proofs.Pairs.{PairGood, pair-good}
-use Rattle.planner.specs.Calls.{checkOf}
-use Rattle.planner.proofs.Good.{cell-list-good}
-use Rattle.planner.proofs.Demands.{limits-small, CheckedPair, checked-pair}
+use Rattle.sheet.proofs.Pairs.{ProperGroup, PairGood, pair-good}
+use Rattle.promises.specs.Calls.{checkOf}
+use Rattle.promises.proofs.Good.{cell-list-good}
+use Rattle.promises.proofs.Demands.{limits-small, CheckAccepted, check-accepted}
 use Rattle.filter.specs.Lookup.{hit}
 use Rattle.filter.proofs.Lists.{found-small}
 use Rattle.origins.specs.Origin.{Decision, decision}
@@ -33,9 +35,16 @@ use Rattle.origins.specs.Origin.{Decision, decision}
 abbrev pub decidedAt : Pair → Origin → ℕ → Decision
 decidedAt q x action = record { hit = hit (placeOf q x) action; origin = x }
 
+-- one of a list, or what is read past its end
+each-at : {A : Type 0} (P : A → Type 0) (l : List A) (i : ℕ) (d : A) → P d → Each P l → P (getD l i d)
+unfolding Each
+each-at P [] i d n h = n
+each-at P (a ∷ l) zero d n h = h .0
+each-at P (a ∷ l) (suc i) d n h = each-at P l i d n (h .1)
+
 module _ (s : List ℕ) (q : Pair) (checks : checkOf limits s ≡ accepted q) where
-  known : CheckedPair limits limits-small s q
-  known = checked-pair limits limits-small s q checks
+  known : CheckAccepted limits limits-small s q
+  known = check-accepted limits limits-small s q checks
 
   pub good : PairGood limits q
   good = pair-good limits s q (known .reads) (omega arith)
@@ -43,8 +52,15 @@ module _ (s : List ℕ) (q : Pair) (checks : checkOf limits s ≡ accepted q) wh
   pub gate-clean : (rulesRefusal (q .order .gate) ≡ 0) × (complete (q .order .gate) ≡ true)
   gate-clean = list-accepted (limits .gate) (q .order .gate) (good .gate)
 
-  own-clean : (rulesRefusal (q .order .own) ≡ 0) × (complete (q .order .own) ≡ true)
+  pub own-clean : (rulesRefusal (q .order .own) ≡ 0) × (complete (q .order .own) ≡ true)
   own-clean = list-accepted (limits .own) (q .order .own) (good .own)
+
+  -- no box is empty
+  pub group-whole : (j : ℕ) → Each Whole (groupAt q j)
+  unfolding every
+  group-whole j =
+      each-every (proper highest) Whole (proper-whole highest) (groupAt q j)
+      (each-at ProperGroup (q .groups) (denies (take j (q .order .gate))) [] refl (good .groups .boxes))
 
   pub cell-readable : listRefusal (limits .total) (cellList q) ≡ 0
   cell-readable = subst (λ (x : Pair). listRefusal (limits .total) (cellList x) ≡ 0) (sym (known .moved)) (cell-list-good limits (q .order) (known .none))

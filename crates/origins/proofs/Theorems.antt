@@ -19,7 +19,7 @@ use Rattle.policy.proofs.Origins.{regions, number-has, first-found, found-numbe
 use Rattle.sheet.proofs.Outcomes.{readable}
 use Rattle.filter.specs.Lookup.{hit, lookup, decidedBy}
 use Rattle.filter.proofs.Lists.{found-small, lookup-first}
-use Rattle.planner.specs.Calls.{checkOf, cellBytes}
+use Rattle.promises.specs.Calls.{checkOf, cellBytes}
 use Rattle.origins.specs.Origin.{Decision, decision, originOf}
 use Rattle.origins.specs.Theorems.{hitOf, workedOut, OriginAgreesTheorem, GateRuleDecided, GateRuleTheorem, OwnRuleDecided, OwnRuleTheorem, NoRuleTheorem}
 use Rattle.origins.proofs.Deciding.{decidedAt, good, gate-clean, cell-clean, cell-readable, has-box, own-has, by-gate, by-own, by-nothing, decided}

@@ -13,7 +13,7 @@ use Rattle.policy.specs.declared.Refusal.the-variants.{NotComplete}
 use Rattle.wire.specs.Buffers.{filled, written}
 use Rattle.filter.specs.Lookup.{lookupNumber}
 use Rattle.origins.specs.Origin.{originSize, originNumbers, valueOf}
-use Rattle.origins.specs.Steps.{traceHeard, Small, TraceTold}
+use Rattle.origins.specs.Steps.{traceHeard, TraceSmall, TraceTold}
 use Rattle.origins.specs.declared.Trace.{Trace}
 use Rattle.origins.specs.declared.Trace.the-variants.{Gate, Own, Nowhere}
 
@@ -22,12 +22,12 @@ put-filled : (ns : List ℕ) (a b c : ℕ) → originSize ≤ length ns → sets
 unfolding filled
 put-filled ns a b c h = sets-parts ns 0 (a ∷ b ∷ c ∷ []) (omega arith)
 
-pub small-gate : {t : Trace} (rule number place : ℕ) → t ≡ Gate rule number place → Small t → (rule < limits .gate) × (number < limits .total) × (place < limits .total)
-unfolding Small
+pub small-gate : {t : Trace} (rule number place : ℕ) → t ≡ Gate rule number place → TraceSmall t → (rule < limits .gate) × (number < limits .total) × (place < limits .total)
+unfolding TraceSmall
 small-gate rule number place e h = rw e at h
 
-pub small-own : {t : Trace} (passed rule place action : ℕ) → t ≡ Own passed rule place action → Small t → (rule < limits .own) × (place < limits .total) × (action ≤ 1)
-unfolding Small
+pub small-own : {t : Trace} (passed rule place action : ℕ) → t ≡ Own passed rule place action → TraceSmall t → (rule < limits .own) × (place < limits .total) × (action ≤ 1)
+unfolding TraceSmall
 small-own passed rule place action e h = rw e at h
 
 module _ (ns ns′ : List ℕ) (room : originSize ≤ length ns) (rule place : ℕ) where

@@ -11,7 +11,7 @@ use Rattle.policy.specs.Origins.{Origin, gateRule, ownRule, originAt}
 use Rattle.policy.specs.declared.Answer.{Answer}
 use Rattle.wire.specs.Buffers.{written}
 use Rattle.filter.specs.Lookup.{Hit, lookupNumber, decidedBy}
-use Rattle.planner.specs.Calls.{workAfter, bothLent, checkOf}
+use Rattle.promises.specs.Calls.{workAfter, bothLent, checkOf}
 
 -- The rule of the cell list that decides, as a lookup there has it, and where it comes from.
 pub record Decision : Type 0 where

@@ -10,22 +10,18 @@ use Rattle.policy.specs.Move.{Pair, cellList}
 use Rattle.policy.specs.Origins.{gateRule, ownRule}
 use Rattle.policy.specs.declared.Answer.{Answer}
 use Rattle.wire.specs.Buffers.{written}
-use Rattle.sheet.specs.Steps.{pairOf, PairPlace}
+use Rattle.sheet.specs.Steps.{pairAt, PairLaid}
+use Rattle.sheet.specs.declared.PairLayout.{PairLayout}
 use Rattle.filter.specs.Lookup.{hit}
-use Rattle.planner.specs.Calls.{checkOf}
+use Rattle.promises.specs.Calls.{checkOf}
 use Rattle.origins.specs.Origin.{Decision, decision, decisionNumbers, originSize, valueOf}
-use Rattle.origins.specs.declared.Layout.{Layout}
 use Rattle.origins.specs.declared.Trace.{Trace}
 use Rattle.origins.specs.declared.Trace.the-variants.{Gate, Own, Nowhere}
 
--- The pair of a sheet whose parts lie so.
-abbrev pub laidOut : Layout → List ℕ → Pair
-laidOut l s = pairOf (l .gate) (l .own) (l .middle) (l .third) s
-
 -- The sheet passes check, and its parts lie so.
-pub record Checked (s : List ℕ) (l : Layout) : Type 0 where
-  pub checks : checkOf limits s ≡ accepted (laidOut l s)
-  pub place : PairPlace s (l .gate) (l .own) (l .middle) (l .third) (l .boxes)
+pub record Checked (s : List ℕ) (l : PairLayout) : Type 0 where
+  pub checks : checkOf limits s ≡ accepted (pairAt l s)
+  pub laid : PairLaid s l
 
 -- What the code's trace of a packet says of the cell list, and of A: the rule that decides it there.
 unfoldable pub traceHeard : Trace → Outcome Decision
@@ -44,10 +40,10 @@ pub record Traced (p : Packet) (q : Pair) (r : Trace) : Type 0 where
   pub gate : GateTraced p (q .order .gate) r
 
 -- The numbers that are told are within the limits of the lists.
-unfoldable pub Small : Trace → Type 0
-Small (Gate rule number place) = (rule < limits .gate) × (number < limits .total) × (place < limits .total)
-Small (Own passed rule place action) = (rule < limits .own) × (place < limits .total) × (action ≤ 1)
-Small Nowhere = Unit {0}
+unfoldable pub TraceSmall : Trace → Type 0
+TraceSmall (Gate rule number place) = (rule < limits .gate) × (number < limits .total) × (place < limits .total)
+TraceSmall (Own passed rule place action) = (rule < limits .own) × (place < limits .total) × (action ≤ 1)
+TraceSmall Nowhere = Unit {0}
 
 -- A trace told: the answer, and the numbers written.
 pub record TraceTold (t : Trace) (ns : List ℕ) (r : Answer) (ns′ : List ℕ) : Type 0 where

@@ -13,7 +13,7 @@ use Rattle.policy.specs.Move.{Pair}
 use Rattle.policy.specs.Demands.{groupAt}
 use Rattle.policy.specs.Origins.{gateRule, ownRule, placeOf, ruleFrom, PlaceBack}
 use Rattle.filter.specs.Lookup.{Hit, hit, lookup}
-use Rattle.planner.specs.Calls.{checkOf, cellBytes}
+use Rattle.promises.specs.Calls.{checkOf, cellBytes}
 use Rattle.origins.specs.Origin.{Decision, originOf}
 
 -- What a decision answers, and the place and the action that the pair and its origin give.

@@ -1,11 +1,12 @@
 // Boxes, rules and packets by value, the refusals, and the answers of the calls. The number of fields, their highest values and
 // their widths stand in the fields' table below; only the calls for C name the fields one by one.
 ghost use mathlib.Core.Path.{_≡_};
+ghost use mathlib.Core.Bool.{true, false};
 ghost use Prim.Native.Nat.{_+_, _-_, _≤_, _<_};
 ghost use lib.ListN.{length, getD, set};
-ghost use Rattle.policy.specs.Fields.{fields, highest};
+ghost use Rattle.policy.specs.Fields.{fields, highest, limits};
 ghost use Rattle.policy.specs.Ranges.{range, properRange, proper, fullRange, isFull};
-ghost use Rattle.policy.specs.Rules.{sound};
+ghost use Rattle.policy.specs.Rules.{sound, isAllow};
 ghost use Rattle.policy.specs.Cut.{meets, share};
 ghost use Rattle.policy.specs.Refusals.{numberOf, refusalBase};
 ghost use Rattle.policy.specs.Values.{regionOf, ruleOf};
@@ -244,4 +245,20 @@ impl Rule {
         }
         false
     }
+
+    pub fn is_allow(self) -> bool
+        ensures { λ r. ⌜ r ≡ isAllow (ruleOf self) ⌝ }
+    {
+        self.action == 1
+    }
+}
+
+// Whether boxes and own rules together are within the total; 7 is given where they are not.
+pub fn has_room(boxes: usize, own: usize) -> bool
+    ensures { λ r. ⌜ (r ≡ true → boxes + own ≤ limits .total) × (r ≡ false → limits .total < boxes + own) ⌝ }
+{
+    if TOTAL_MOST < own {
+        return false;
+    }
+    boxes <= TOTAL_MOST - own
 }

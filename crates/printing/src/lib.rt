@@ -104,7 +104,7 @@ fn print_lists(sheet: &[u8], work: &mut [u8]) {
 pub fn print_plan(order: &[u8]) {
     let mut sheet = [0u8; PAIR_BYTES];
     let mut work = [0u8; WORK_BYTES];
-    match planner::move_order(order, &mut sheet, &mut work) {
+    match moving::move_order(order, &mut sheet, &mut work) {
         Answer::Refused(f) => print_refusal(f),
         Answer::Length(n) => print_lists(&sheet[..n], &mut work),
     }

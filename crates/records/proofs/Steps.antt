@@ -7,7 +7,7 @@ use native.Mathlib.Numerals.{add-one}
 use lib.ListN.{length, getD, set, drop, take, length-drop}
 use lib.Seq.{sets, take-suc, getD-drop, drop-cons, take-suc-set}
 
--- Values of the fields at a place of a list of numbers, one more of them read or stored.
+-- Values of the fields within a list of numbers, one more of them read or stored.
 pub value-read : (numbers values : List ℕ) (at k : ℕ) → k < length values → at + k < length numbers → take k values ≡ take k (drop at numbers)
     → take (k + 1) (set values k (getD numbers (at + k) 0)) ≡ take (k + 1) (drop at numbers)
 value-read numbers values at k h g e =

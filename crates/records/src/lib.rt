@@ -17,7 +17,7 @@ ghost use Rattle.records.specs.Calls.{numbersSize, ruleNumbers, numbersR
 // The numbers of a rule: a low and a high for each field, and the action.
 pub const NUMBERS: usize = 2 * FIELDS + 1;
 
-// One value for each field read, from a place on.
+// One value for each field read, from `at` on.
 fn values_at(numbers: &[u32], at: usize) -> [u32; FIELDS]
     requires { ⌜ at + fields ≤ length (now numbers) ⌝ }
     ensures { λ r. ⌜ r ≡ take fields (drop at (now (numbers .entry))) ⌝ }
@@ -31,7 +31,7 @@ fn values_at(numbers: &[u32], at: usize) -> [u32; FIELDS]
     values
 }
 
-// One value for each field stored, from a place on.
+// One value for each field stored, from `at` on.
 fn put_values(numbers: &mut [u32], at: usize, values: [u32; FIELDS])
     requires { ⌜ at + fields ≤ length (now numbers) ⌝ }
     ensures { λ r. ⌜ now (numbers .exit) ≡ sets (now (numbers .entry)) at values ⌝ }

@@ -17,11 +17,13 @@ use Rattle.wire.proofs.Numbers.{numberBytes-length}
 use Rattle.wire.proofs.Records.{rulesIn-length}
 use Rattle.sheet.specs.Orders.{orderIn, orderBytes, listIn}
 use Rattle.sheet.specs.Pairs.{groupsBytes, pairIn, pairBytes}
-use Rattle.sheet.specs.Steps.{rulesOf, listHeard, ListPlace, OfRules, ListRead, listsOf, ListsPlace, orderHeard, OrderPlaced, OrderRead, pairOf, pairHeard, PairPlace, PairPlaced, PairRead}
+use Rattle.sheet.specs.Steps.{rulesOf, listHeard, ListLaid, OfRules, ListRead, OfOrder, orderAt, orderHeard, OrderLaid, OrderRead, OfPair, pairAt, pairHeard, PairLaid, PairRead}
 use Rattle.sheet.specs.declared.Section.{Section}
 use Rattle.sheet.specs.declared.Section.the-variants as S
+use Rattle.sheet.specs.declared.OrderLayout.{OrderLayout}
 use Rattle.sheet.specs.declared.OrderParts.{OrderParts}
 use Rattle.sheet.specs.declared.OrderParts.the-variants as O
+use Rattle.sheet.specs.declared.PairLayout.{PairLayout}
 use Rattle.sheet.specs.declared.PairParts.{PairParts}
 use Rattle.sheet.specs.declared.PairParts.the-variants as P
 use Rattle.wire.proofs.Lists.{listBytes-length}
@@ -38,7 +40,7 @@ pub record ListAccepted (most : ℕ) (s : List ℕ) (n next : ℕ) : Type 0 wher
   pub reads : listIn most s ≡ accepted (rulesOf n s)
   pub readable : listRefusal most (rulesOf n s) ≡ 0
   pub bytes : listBytes (rulesOf n s) ≡ s
-  pub place : ListPlace most s n next
+  pub laid : ListLaid most s n next
 
 pub list-accepted :
     {most : ℕ} {s : List ℕ} {r : Section} → ListRead most s r → Each Byte s → (n next : ℕ) → r ≡ S.Rules n next → ListAccepted most s n next
@@ -49,7 +51,7 @@ list-accepted {most} {s} x b n next e =
       reads = p;
       readable = list-readable most s (rulesOf n s) p;
       bytes = list-written-back most s (rulesOf n s) p b;
-      place = rw e at (x .place);
+      laid = rw e at (x .laid);
     }
 
 -- Where a section's bytes end.
@@ -62,31 +64,31 @@ pub order-refused : {s : List ℕ} {r : OrderParts} → OrderRead s r → (f : R
 unfolding orderHeard
 order-refused {s} x f e = sym (x .says) ∙ ap (orderHeard s) e
 
-pub record OrderAccepted (s : List ℕ) (n m middle : ℕ) : Type 0 where
-  pub reads : orderIn limits s ≡ accepted (listsOf n m middle s)
-  pub gateReadable : listRefusal (limits .gate) (rulesOf n s) ≡ 0
-  pub ownReadable : listRefusal (limits .own) (rulesOf m (drop middle s)) ≡ 0
-  pub gateBytes : listBytes (rulesOf n s) ≡ take middle s
-  pub ownBytes : listBytes (rulesOf m (drop middle s)) ≡ drop middle s
-  pub place : ListsPlace s n m middle (length s)
+pub record OrderAccepted (s : List ℕ) (l : OrderLayout) : Type 0 where
+  pub reads : orderIn limits s ≡ accepted (orderAt l s)
+  pub gateReadable : listRefusal (limits .gate) (rulesOf (l .gate) s) ≡ 0
+  pub ownReadable : listRefusal (limits .own) (rulesOf (l .own) (drop (l .middle) s)) ≡ 0
+  pub gateBytes : listBytes (rulesOf (l .gate) s) ≡ take (l .middle) s
+  pub ownBytes : listBytes (rulesOf (l .own) (drop (l .middle) s)) ≡ drop (l .middle) s
+  pub laid : OrderLaid s l
 
-pub order-accepted :
-    {s : List ℕ} {r : OrderParts} → OrderRead s r → Each Byte s → (n m middle : ℕ) → r ≡ O.Parts n m middle → OrderAccepted s n m middle
-unfolding orderHeard OrderPlaced orderBytes
-order-accepted {s} x b n m middle e =
-    let o : Order = listsOf n m middle s in
-    let p : ListsPlace s n m middle (length s) = rw e at (x .place) in
+pub order-accepted : {s : List ℕ} {r : OrderParts} → OrderRead s r → Each Byte s → (l : OrderLayout) → r ≡ O.Parts l → OrderAccepted s l
+unfolding orderHeard OfOrder orderBytes
+order-accepted {s} x b l e =
+    let o : Order = orderAt l s in
+    let middle : ℕ = l .middle in
+    let p : OrderLaid s l = rw e at (x .laid) in
     let q : orderIn limits s ≡ accepted o = sym (x .says) ∙ ap (orderHeard s) e in
     let f = order-readable limits s o q in
     let k : listBytes (o .gate) ++ listBytes (o .own) ≡ s = order-written-back limits s o q b in
-    let l : length (listBytes (o .gate)) ≡ middle = section-end (limits .gate) n s (omega arith) (f .0) ∙ sym (p .gateEnd) in
+    let m : length (listBytes (o .gate)) ≡ middle = section-end (limits .gate) (l .gate) s (omega arith) (f .0) ∙ sym (p .lists .gateEnd) in
     record {
       reads = q;
       gateReadable = f .0;
       ownReadable = f .1;
-      gateBytes = sym (ap (take middle) (sym k) ∙ take-at (listBytes (o .gate)) (listBytes (o .own)) middle l);
-      ownBytes = sym (ap (drop middle) (sym k) ∙ drop-at (listBytes (o .gate)) (listBytes (o .own)) middle l);
-      place = p;
+      gateBytes = sym (ap (take middle) (sym k) ∙ take-at (listBytes (o .gate)) (listBytes (o .own)) middle m);
+      ownBytes = sym (ap (drop middle) (sym k) ∙ drop-at (listBytes (o .gate)) (listBytes (o .own)) middle m);
+      laid = p;
     }
 
 -- A pair sheet.
@@ -94,30 +96,29 @@ pub pair-refused : {s : List ℕ} {r : PairParts} → PairRead s r → (f : Refu
 unfolding pairHeard
 pair-refused {s} x f e = sym (x .says) ∙ ap (pairHeard s) e
 
-pub record PairAccepted (s : List ℕ) (n m middle third boxes : ℕ) : Type 0 where
-  pub reads : pairIn limits s ≡ accepted (pairOf n m middle third s)
-  pub good : PairGood limits (pairOf n m middle third s)
-  pub listsBytes : orderBytes (listsOf n m middle s) ≡ take third s
-  pub sectionBytes : numberBytes countSize (length (pairOf n m middle third s .groups)) ++ groupsBytes (pairOf n m middle third s .groups) ≡ drop third s
-  pub groupBytes : groupsBytes (pairOf n m middle third s .groups) ≡ drop (third + countSize) s
-  pub place : PairPlace s n m middle third boxes
+pub record PairAccepted (s : List ℕ) (l : PairLayout) : Type 0 where
+  pub reads : pairIn limits s ≡ accepted (pairAt l s)
+  pub good : PairGood limits (pairAt l s)
+  pub listsBytes : orderBytes (pairAt l s .order) ≡ take (l .order .end) s
+  pub sectionBytes : numberBytes countSize (length (pairAt l s .groups)) ++ groupsBytes (pairAt l s .groups) ≡ drop (l .order .end) s
+  pub groupBytes : groupsBytes (pairAt l s .groups) ≡ drop (l .from) s
+  pub laid : PairLaid s l
 
-pub pair-accepted :
-    {s : List ℕ} {r : PairParts} → PairRead s r → Each Byte s → (n m middle third boxes : ℕ) → r ≡ P.Parts n m middle third boxes
-    → PairAccepted s n m middle third boxes
-unfolding pairHeard PairPlaced pairBytes orderBytes
-pair-accepted {s} x b n m middle third boxes e =
-    let p : Pair = pairOf n m middle third s in
+pub pair-accepted : {s : List ℕ} {r : PairParts} → PairRead s r → Each Byte s → (l : PairLayout) → r ≡ P.Parts l → PairAccepted s l
+unfolding pairHeard OfPair pairBytes orderBytes
+pair-accepted {s} x b l e =
+    let third : ℕ = l .order .end in
+    let p : Pair = pairAt l s in
     let q : pairIn limits s ≡ accepted p = sym (x .says) ∙ ap (pairHeard s) e in
-    let w : PairPlace s n m middle third boxes = rw e at (x .place) in
+    let w : PairLaid s l = rw e at (x .laid) in
     let g = pair-good limits s p q (omega arith) in
     let k = pair-written-back limits s p q b in
-    let gate : List ℕ = listBytes (rulesOf n s) in
-    let own : List ℕ = listBytes (rulesOf m (drop middle s)) in
+    let gate : List ℕ = listBytes (p .order .gate) in
+    let own : List ℕ = listBytes (p .order .own) in
     let head : List ℕ = numberBytes countSize (length (p .groups)) in
     let rest : List ℕ = groupsBytes (p .groups) in
-    let lg : length gate ≡ middle = section-end (limits .gate) n s (omega arith) (g .gate) ∙ sym (w .lists .gateEnd) in
-    let lo : length own ≡ listSize m = section-end (limits .own) m (drop middle s) (omega arith) (g .own) in
+    let lg : length gate ≡ l .order .middle = section-end (limits .gate) (l .order .gate) s (omega arith) (g .gate) ∙ sym (w .lists .gateEnd) in
+    let lo : length own ≡ listSize (l .order .own) = section-end (limits .own) (l .order .own) (drop (l .order .middle) s) (omega arith) (g .own) in
     let lt : length (gate ++ own) ≡ third = rw (length-append, lg, lo) (sym (w .lists .ownEnd)) in
     let behind : head ++ rest ≡ drop third s = sym (ap (drop third) (sym k) ∙ drop-at (gate ++ own) (head ++ rest) third lt) in
     record {
@@ -126,7 +127,8 @@ pair-accepted {s} x b n m middle third boxes e =
       listsBytes = sym (ap (take third) (sym k) ∙ take-at (gate ++ own) (head ++ rest) third lt);
       sectionBytes = behind;
       groupBytes =
-          sym (sym (drop-drop countSize third s)
-          ∙ (ap (drop countSize) (sym behind) ∙ drop-at head rest countSize (numberBytes-length countSize (length (p .groups)))));
-      place = w;
+          sym (ap (λ (i : ℕ). drop i s) (w .begin)
+          ∙ (sym (drop-drop countSize third s)
+          ∙ (ap (drop countSize) (sym behind) ∙ drop-at head rest countSize (numberBytes-length countSize (length (p .groups))))));
+      laid = w;
     }

@@ -20,7 +20,7 @@ use Rattle.wire.specs.Records.{boxesIn}
 use Rattle.wire.proofs.Records.{boxesIn-length}
 use Rattle.sheet.specs.Sections.{Reading, reading}
 use Rattle.sheet.specs.Pairs.{groupSize, groupBoxes, behind, groupsIn}
-use Rattle.sheet.specs.Steps.{withTotal, groupsFrom, groupsHeard, GroupsPlace, GroupsPlaced, GroupsRead}
+use Rattle.sheet.specs.Steps.{withTotal, groupsFrom, groupsHeard, GroupsLaid, OfBoxes, GroupsRead}
 use Rattle.sheet.specs.declared.Groups.{Groups}
 use Rattle.sheet.specs.declared.Groups.the-variants.{Boxes, Refused}
 use Rattle.sheet.proofs.Parts.{part-from}
@@ -32,8 +32,8 @@ one-group s = rw append-nil (boxesIn-length (countIn s) (drop countSize s))
 
 module _ (most n total : ℕ) (s : List ℕ) where
   groups-refuses : (f : Refusal) → groupsIn (withTotal most) n total s ≡ refused (numberOf f) → GroupsRead most n total s (Refused f)
-  unfolding groupsHeard GroupsPlaced
-  groups-refuses f e = record { says = sym e; place = tt }
+  unfolding groupsHeard OfBoxes
+  groups-refuses f e = record { says = sym e; laid = tt }
 
 -- One group.
 module _ (most total : ℕ) (s : List ℕ) where
@@ -64,10 +64,10 @@ module _ (most total : ℕ) (s : List ℕ) where
         bad-box h = groups-refuses most 1 total s RuleBad (there ∙ rw (not-true v h) refl)
 
         pub group-read : not v ≡ false → GroupsRead most 1 total s (Boxes n (groupSize n))
-        unfolding groupsHeard groupsFrom GroupsPlaced
+        unfolding groupsHeard groupsFrom OfBoxes
         group-read h = record {
           says = sym (there ∙ rw (not-false v h, e) refl);
-          place = record { boxes = e ∙ sym (one-group s); end = omega arith; inside = g; limit = omega arith };
+          laid = record { boxes = e ∙ sym (one-group s); end = omega arith; inside = g; limit = omega arith };
         }
 
 -- The answer, by its cases.
@@ -83,13 +83,13 @@ pub groups-boxes :
 unfolding groupsHeard
 groups-boxes {n = n} {s = s} x count next e = sym (x .says) ∙ ap (groupsHeard n s) e
 
-pub groups-place :
+pub groups-laid :
     {most n total : ℕ} {s : List ℕ} {r : Groups} → GroupsRead most n total s r → (count next : ℕ) → r ≡ Boxes count next
-    → GroupsPlace most n total s count next
-unfolding GroupsPlaced
-groups-place x count next e = rw e at (x .place)
+    → GroupsLaid most n total s count next
+unfolding OfBoxes
+groups-laid x count next e = rw e at (x .laid)
 
--- What a loop over n groups has to do at turn i: those that are left, from a place on, with a total so far.
+-- What a loop over n groups has to do at turn i: those that are left, from a byte on, with a total so far.
 pub record GroupsLeft (lim : Limits) (n own : ℕ) (s : List ℕ) (i total at : ℕ) : Type 0 where
   pub refuses : (m : ℕ) → groupsIn lim (n - i) total (drop at s) ≡ refused m → groupsIn lim n own s ≡ refused m
   pub accepts : (t : List ℕ) → groupsIn lim (n - i) total (drop at s) ≡ accepted (reading (groupsFrom (n - i) (drop at s)) t)
@@ -173,7 +173,7 @@ module _ {most n own i total at : ℕ} {s : List ℕ} (g : GroupsLeft (withTotal
           let lim : Limits = withTotal most in
           let u : List ℕ = drop at s in
           let k : ℕ = n - (i + 1) in
-          let p = groups-place (part x) count next e in
+          let p = groups-laid (part x) count next e in
           let q = p .end in
           let c : countIn u ≡ count = sym (p .boxes ∙ one-group u) in
           let d : groupSize (countIn u) ≡ next = omega arith in
@@ -196,7 +196,7 @@ module _ {most n own i total at : ℕ} {s : List ℕ} (g : GroupsLeft (withTotal
           }
 
   pub groups-done : n ≤ i → GroupsRead most n own s (Boxes (total - own) at)
-  unfolding groupsHeard GroupsPlaced groupsIn groupsFrom together
+  unfolding groupsHeard OfBoxes groupsIn groupsFrom together
   groups-done h =
       let e : n - i ≡ 0 = omega arith in
       let x : groupsIn (withTotal most) (n - i) total (drop at s) ≡ accepted (reading (groupsFrom (n - i) (drop at s)) (drop at s)) = rw e refl in
@@ -206,5 +206,5 @@ module _ {most n own i total at : ℕ} {s : List ℕ} (g : GroupsLeft (withTotal
       let z = g .size in
       record {
         says = sym (g .accepts (drop at s) x);
-        place = record { boxes = omega arith; end = omega arith; inside = g .inside; limit = omega arith };
+        laid = record { boxes = omega arith; end = omega arith; inside = g .inside; limit = omega arith };
       }

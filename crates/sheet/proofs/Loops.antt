@@ -6,13 +6,13 @@ use Prim.Native.Nat.{ℕ, suc, _+_, _-_, _<_, _≤_}
 use native.Mathlib.Omega.{arith}
 use lib.ListN.{drop}
 use lib.Seq.{drop-drop}
-use borrow.Author.Tests.{not-true, not-false, eq-eqb, ne-eqb}
+use borrow.Author.Tests.{not-true, not-false}
 use Rattle.lists.specs.Lists.{every}
 use Rattle.policy.specs.Fields.{boxSize, recordSize}
 use Rattle.policy.specs.Rules.{Rule, isAllow, denies}
 use Rattle.wire.specs.Records.{boxIn, boxesIn, ruleIn, rulesIn, eachIn}
 
--- What is left at turn i begins with the item at the place reached.
+-- What is left at turn i begins with the item that is reached.
 module _ {A : Type 0} (size : ℕ) (read : List ℕ → A) (readAll : ℕ → List ℕ → List A) where
   left : ((n : ℕ) (s : List ℕ) → readAll (suc n) s ≡ read s ∷ readAll n (drop size s))
       → (n i at : ℕ) (s : List ℕ) → i < n → readAll (n - i) (drop at s) ≡ read (drop at s) ∷ readAll (n - (i + 1)) (drop (at + size) s)
@@ -58,16 +58,16 @@ unfolding every
 every-ends f e = ap (every f) e
 
 -- The deny rules among those that are left.
-module _ {l k : List Rule} {x a : Rule} (e : l ≡ a ∷ k) (is : x ≡ a) where
-  denies-step : denies l ≡ cond (isAllow x) (denies k) (suc (denies k))
+module _ {l k : List Rule} {a : Rule} {b : Bool} (e : l ≡ a ∷ k) (is : b ≡ isAllow a) where
+  denies-step : denies l ≡ cond b (denies k) (suc (denies k))
   unfolding denies
-  denies-step = ap denies e ∙ ap (λ (r : Rule). cond (isAllow r) (denies k) (suc (denies k))) (sym is)
+  denies-step = ap denies e ∙ ap (λ (t : Bool). cond t (denies k) (suc (denies k))) (sym is)
 
-  pub deny-counts : (x .action ≡ 1 → ⊥) → denies l ≡ suc (denies k)
-  deny-counts h = denies-step ∙ rw (ne-eqb (x .action) 1 h) refl
+  pub deny-counts : not b ≡ true → denies l ≡ suc (denies k)
+  deny-counts h = denies-step ∙ rw (not-true b h) refl
 
-  pub allow-skips : x .action ≡ 1 → denies l ≡ denies k
-  allow-skips h = denies-step ∙ rw (eq-eqb (x .action) 1 h) refl
+  pub allow-skips : not b ≡ false → denies l ≡ denies k
+  allow-skips h = denies-step ∙ rw (not-false b h) refl
 
 pub no-denies : {l : List Rule} → l ≡ [] → denies l ≡ 0
 unfolding denies

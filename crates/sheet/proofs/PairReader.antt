@@ -15,48 +15,55 @@ use Rattle.policy.specs.declared.Refusal.the-variants.{LengthWrong, GroupsDiffe
 use Rattle.wire.proofs.Records.{rulesIn-length}
 use Rattle.sheet.specs.Orders.{ended, order}
 use Rattle.sheet.specs.Pairs.{groupsIn, groupSection, pairIn}
-use Rattle.sheet.specs.Steps.{rulesOf, ListsPlace, ListsRead, GroupsRead, pairHeard, PairPlaced, PairRead}
-use Rattle.sheet.specs.declared.Lists.{Lists}
-use Rattle.sheet.specs.declared.Lists.the-variants as L
+use Rattle.sheet.specs.Steps.{rulesOf, ListsLaid, ListsRead, GroupsRead, pairHeard, OfPair, PairRead}
+use Rattle.sheet.specs.declared.OrderLayout.{OrderLayout}
+use Rattle.sheet.specs.declared.OrderParts.{OrderParts}
+use Rattle.sheet.specs.declared.OrderParts.the-variants as O
 use Rattle.sheet.specs.declared.Groups.{Groups}
 use Rattle.sheet.specs.declared.Groups.the-variants as G
 use Rattle.sheet.specs.declared.PairParts.the-variants as P
 use Rattle.sheet.proofs.Parts.{part-from}
-use Rattle.sheet.proofs.OrderReader.{lists-refusal, lists-parts, lists-place}
-use Rattle.sheet.proofs.GroupReader.{groups-refusal, groups-boxes, groups-place}
+use Rattle.sheet.proofs.OrderReader.{lists-refusal, lists-parts, lists-laid}
+use Rattle.sheet.proofs.GroupReader.{groups-refusal, groups-boxes, groups-laid}
 use Rattle.wire.specs.Lists.{countIn, listSize}
 
 pair-refuses : {s : List ℕ} (f : Refusal) → pairIn limits s ≡ refused (numberOf f) → PairRead s (P.Refused f)
-unfolding pairHeard PairPlaced
-pair-refuses f e = record { says = sym e; place = tt }
+unfolding pairHeard OfPair
+pair-refuses f e = record { says = sym e; laid = tt }
 
-module _ {s : List ℕ} {r : Lists} (x : ListsRead s r) where
-  pub pair-refusal : (f : Refusal) → r ≡ L.Refused f → PairRead s (P.Refused f)
+module _ {s : List ℕ} {r : OrderParts} (x : ListsRead s r) where
+  pub pair-refusal : (f : Refusal) → r ≡ O.Refused f → PairRead s (P.Refused f)
   unfolding pairIn
   pair-refusal f e = pair-refuses f (rw (lists-refusal x f e) refl)
 
-  module _ (n m middle third : ℕ) (e : r ≡ L.Parts n m middle third) where
-    place : ListsPlace s n m middle third
-    place = lists-place x n m middle third e
+  module _ (l : OrderLayout) (e : r ≡ O.Parts l) where
+    abbrev third : ℕ
+    third = l .end
+
+    abbrev m : ℕ
+    m = l .own
+
+    laid : ListsLaid s l
+    laid = lists-laid x l e
 
     pub third-inside : third ≤ length s
-    third-inside = place .inside
+    third-inside = laid .inside
 
-    pub gate-inside : listSize n ≤ length s
-    gate-inside = let p = place in omega arith
+    pub gate-inside : listSize (l .gate) ≤ length s
+    gate-inside = let p = laid in omega arith
 
     pub own-within : m ≤ limits .total
-    own-within = let p = place in omega arith
+    own-within = let p = laid in omega arith
 
     abbrev gate : List Rule
-    gate = rulesOf n s
+    gate = rulesOf (l .gate) s
 
     abbrev own : List Rule
-    own = rulesOf m (drop middle s)
+    own = rulesOf m (drop (l .middle) s)
 
     behind : pairIn limits s ≡ groupSection limits (order gate own) (drop third s)
     unfolding pairIn
-    behind = rw (lists-parts x n m middle third e) refl
+    behind = rw (lists-parts x l e) refl
 
     pub no-group-count : length s - third < countSize → PairRead s (P.Refused LengthWrong)
     unfolding groupSection
@@ -84,7 +91,7 @@ module _ {s : List ℕ} {r : Lists} (x : ListsRead s r) where
               ← d,
               eq-eqb v k q,
               drop-drop countSize third s,
-              rulesIn-length m (drop countSize (drop middle s)),
+              rulesIn-length m (drop countSize (drop (l .middle) s)),
             )
 
         pub third-refusal : (f : Refusal) → t ≡ G.Refused f → PairRead s (P.Refused f)
@@ -94,24 +101,32 @@ module _ {s : List ℕ} {r : Lists} (x : ListsRead s r) where
           left : length (drop next (drop (third + countSize) s)) ≡ length s - (third + countSize) - next
           left = length-drop next (drop (third + countSize) s) ∙ ap (λ (j : ℕ). j - next) (length-drop (third + countSize) s)
 
+          pub groups-inside : third + countSize + next ≤ length s
+          groups-inside = let p = rw length-drop at (groups-laid groups boxes next i .inside) in omega arith
+
           pub pair-over : next < length s - (third + countSize) → PairRead s (P.Refused LengthWrong)
           pair-over h =
               pair-refuses LengthWrong
               (counted ∙ rw (groups-boxes groups boxes next i, ne-eqb (length (drop next (drop (third + countSize) s))) 0 (λ z. omega (arith, left))) refl)
 
-          pub pair-read : length s - (third + countSize) ≤ next → PairRead s (P.Parts n m middle third boxes)
-          unfolding pairHeard PairPlaced
+          pub pair-read :
+              length s - (third + countSize) ≤ next
+              → PairRead s (P.Parts (record { order = l; groups = k; boxes = boxes; from = third + countSize; end = third + countSize + next }))
+          unfolding pairHeard OfPair
           pair-read h =
-              let p = groups-place groups boxes next i in
-              let l = rw length-drop at (p .inside) in
+              let p = groups-laid groups boxes next i in
+              let inside = groups-inside in
               record {
                 says =
                     sym (counted
-                    ∙ rw (groups-boxes groups boxes next i, eq-eqb (length (drop next (drop (third + countSize) s))) 0 (omega (arith, left)), d) refl);
-                place = record {
-                  lists = place;
-                  boxesAre = rw (← d) (p .boxes);
-                  end = rw (← d) (omega (arith, p .end));
+                    ∙ rw (groups-boxes groups boxes next i, eq-eqb (length (drop next (drop (third + countSize) s))) 0 (omega (arith, left))) refl);
+                laid = record {
+                  lists = laid;
+                  begin = refl;
+                  groupsAre = d;
+                  boxesAre = p .boxes;
+                  groupsEnd = omega (arith, p .end);
+                  whole = omega arith;
                   totalLimit = omega (arith, p .limit);
                 };
               }

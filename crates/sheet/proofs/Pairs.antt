@@ -2,7 +2,7 @@
 use mathlib.Core.Path.{_≡_, refl, ap, sym, subst, _∙_}
 use mathlib.Core.List.{List, [], _∷_, _++_, append-assoc, append-nil}
 use mathlib.Core.Bool.{Bool, true, false, cond}
-use Prim.Native.Nat.{ℕ, zero, suc, _+_, _<_, _≤_}
+use Prim.Native.Nat.{ℕ, zero, suc, _+_, _*_, _<_, _≤_}
 use native.Mathlib.Omega.{arith}
 use lib.Dec.{leb, eqb}
 use lib.ListN.{length, take, drop, length-append, take-append-drop}
@@ -248,3 +248,12 @@ pair-back lim p u v w g =
       eq-eqb n n refl,
       e,
     )
+
+-- How long the bytes of groups are.
+pub groups-length : (gs : List (List Region)) → Each ProperGroup gs → length (groupsBytes gs) ≡ countSize * length gs + boxSize * length (together gs)
+unfolding eachBytes groupBytes together Each
+groups-length [] h = refl
+groups-length (g ∷ gs) h =
+    let i = groups-length gs (h .1) in
+    let b = boxesBytes-length g (each-every (proper highest) (Fits widths) proper-fits g (h .0)) in
+    rw (length-append, length-append, length-append, numberBytes-length) (omega arith)

@@ -1,4 +1,4 @@
--- What owning a slice of bytes tells, and its part from a place on. Assumes nothing.
+-- What owning a slice of bytes tells, and its part from a byte on. Assumes nothing.
 use mathlib.Core.Path.{_≡_}
 use mathlib.Core.List.{List, [], _∷_}
 use Prim.Native.Nat.{ℕ, suc, _-_}

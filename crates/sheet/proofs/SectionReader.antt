@@ -18,7 +18,7 @@ use Rattle.policy.specs.declared.Refusal.the-variants.{CountOutside, LengthWron
 use Rattle.wire.specs.Records.{boxIn, ruleIn, rulesIn, eachIn}
 use Rattle.sheet.specs.Sections.{reading, section}
 use Rattle.sheet.specs.Orders.{listIn}
-use Rattle.sheet.specs.Steps.{rulesOf, sectionHeard, SectionPlace, OfRules, SectionRead, listHeard, ListRead}
+use Rattle.sheet.specs.Steps.{rulesOf, sectionHeard, SectionLaid, OfRules, SectionRead, listHeard, ListRead}
 use Rattle.sheet.specs.declared.Section.{Section}
 use Rattle.sheet.specs.declared.Section.the-variants.{Rules, Refused}
 use Rattle.wire.specs.Lists.{countIn, listSize}
@@ -40,7 +40,7 @@ complete-last (suc n) s h =
 module _ (most : ℕ) (s : List ℕ) where
   section-refuses : (f : Refusal) → section most s ≡ refused (numberOf f) → SectionRead most s (Refused f)
   unfolding sectionHeard OfRules
-  section-refuses f e = record { says = sym e; place = tt }
+  section-refuses f e = record { says = sym e; laid = tt }
 
   pub no-count : length s < countSize → SectionRead most s (Refused LengthWrong)
   unfolding section
@@ -85,7 +85,7 @@ module _ (most : ℕ) (s : List ℕ) where
             unfolding sectionHeard OfRules
             section-read l = record {
               says = sym (there ∙ rw (sym k ∙ not-false v h, last-is ∙ not-false u l) refl);
-              place = record { end = refl; inside = g; limit = d };
+              laid = record { end = refl; inside = g; limit = d };
             }
 
 -- The section reader's answer, by its cases.
@@ -99,15 +99,15 @@ pub section-rules :
 unfolding sectionHeard
 section-rules {s = s} x n next e = sym (x .says) ∙ ap (sectionHeard s) e
 
-pub section-place : {most : ℕ} {s : List ℕ} {r : Section} → SectionRead most s r → (n next : ℕ) → r ≡ Rules n next → SectionPlace most s n next
+pub section-laid : {most : ℕ} {s : List ℕ} {r : Section} → SectionRead most s r → (n next : ℕ) → r ≡ Rules n next → SectionLaid most s n next
 unfolding OfRules
-section-place x n next e = rw e at (x .place)
+section-laid x n next e = rw e at (x .laid)
 
 -- A list by itself.
 module _ {most : ℕ} {s : List ℕ} where
   list-refuses : (f : Refusal) → listIn most s ≡ refused (numberOf f) → ListRead most s (Refused f)
   unfolding listHeard OfRules
-  list-refuses f e = record { says = sym e; place = tt }
+  list-refuses f e = record { says = sym e; laid = tt }
 
   module _ {r : Section} (x : SectionRead most s r) where
     pub list-refusal : (f : Refusal) → r ≡ Refused f → ListRead most s (Refused f)
@@ -123,9 +123,9 @@ module _ {most : ℕ} {s : List ℕ} where
       pub list-read : length s ≤ next → ListRead most s (Rules n next)
       unfolding listIn listHeard OfRules
       list-read h =
-          let p = section-place x n next e in
+          let p = section-laid x n next e in
           let i = p .inside in
           record {
             says = sym (rw (section-rules x n next e, eq-eqb (length (drop next s)) 0 (omega (arith, length-drop next s))) refl);
-            place = record { section = p; whole = omega arith };
+            laid = record { section = p; whole = omega arith };
           }

@@ -14,13 +14,13 @@ use Rattle.sheet.specs.Sections.{Reading, reading, section}
 use Rattle.sheet.specs.Orders.{order, listsIn, orderIn, listIn}
 use Rattle.sheet.specs.Pairs.{groupSize, groupBoxes, groupsIn, pairIn}
 use Rattle.sheet.specs.declared.Section.{Section}
-use Rattle.sheet.specs.declared.Lists.{Lists}
 use Rattle.sheet.specs.declared.Groups.{Groups}
+use Rattle.sheet.specs.declared.OrderLayout.{OrderLayout}
 use Rattle.sheet.specs.declared.OrderParts.{OrderParts}
+use Rattle.sheet.specs.declared.PairLayout.{PairLayout}
 use Rattle.sheet.specs.declared.PairParts.{PairParts}
 use Rattle.wire.specs.Lists.{countIn, listSize}
 use Rattle.sheet.specs.declared.Section.the-variants as S
-use Rattle.sheet.specs.declared.Lists.the-variants as L
 use Rattle.sheet.specs.declared.Groups.the-variants as G
 use Rattle.sheet.specs.declared.OrderParts.the-variants as O
 use Rattle.sheet.specs.declared.PairParts.the-variants as P
@@ -34,7 +34,7 @@ unfoldable pub sectionHeard : List ℕ → Section → Outcome (Reading (List Ru
 sectionHeard s (S.Rules n next) = accepted (reading (rulesOf n s) (drop next s))
 sectionHeard s (S.Refused f) = refused (numberOf f)
 
-pub record SectionPlace (most : ℕ) (s : List ℕ) (n next : ℕ) : Type 0 where
+pub record SectionLaid (most : ℕ) (s : List ℕ) (n next : ℕ) : Type 0 where
   pub end : next ≡ listSize n
   pub inside : next ≤ length s
   pub limit : n ≤ most
@@ -46,56 +46,57 @@ OfRules says (S.Refused f) = Unit {0}
 
 pub record SectionRead (most : ℕ) (s : List ℕ) (r : Section) : Type 0 where
   pub says : sectionHeard s r ≡ section most s
-  pub place : OfRules (SectionPlace most s) r
+  pub laid : OfRules (SectionLaid most s) r
 
 -- A list by itself: a section that ends where the bytes end.
 unfoldable pub listHeard : List ℕ → Section → Outcome (List Rule)
 listHeard s (S.Rules n next) = accepted (rulesOf n s)
 listHeard s (S.Refused f) = refused (numberOf f)
 
-pub record ListPlace (most : ℕ) (s : List ℕ) (n next : ℕ) : Type 0 where
-  pub section : SectionPlace most s n next
+pub record ListLaid (most : ℕ) (s : List ℕ) (n next : ℕ) : Type 0 where
+  pub section : SectionLaid most s n next
   pub whole : next ≡ length s
 
 pub record ListRead (most : ℕ) (s : List ℕ) (r : Section) : Type 0 where
   pub says : listHeard s r ≡ listIn most s
-  pub place : OfRules (ListPlace most s) r
+  pub laid : OfRules (ListLaid most s) r
 
--- Sections A and B, where B begins at `middle`.
-abbrev pub listsOf : ℕ → ℕ → ℕ → List ℕ → Order
-listsOf n m middle s = order (rulesOf n s) (rulesOf m (drop middle s))
+-- What is said of the layout that was read; of a refusal nothing is.
+unfoldable pub OfOrder : (OrderLayout → Type 0) → OrderParts → Type 0
+OfOrder says (O.Parts l) = says l
+OfOrder says (O.Refused f) = Unit {0}
 
-unfoldable pub listsHeard : List ℕ → Lists → Outcome (Reading Order)
-listsHeard s (L.Parts n m middle third) = accepted (reading (listsOf n m middle s) (drop third s))
-listsHeard s (L.Refused f) = refused (numberOf f)
+-- Sections A and B.
+abbrev pub orderAt : OrderLayout → List ℕ → Order
+orderAt l s = order (rulesOf (l .gate) s) (rulesOf (l .own) (drop (l .middle) s))
 
-pub record ListsPlace (s : List ℕ) (n m middle third : ℕ) : Type 0 where
-  pub gateEnd : middle ≡ listSize n
-  pub ownEnd : third ≡ middle + listSize m
-  pub inside : third ≤ length s
-  pub gateLimit : n ≤ limits .gate
-  pub ownLimit : m ≤ limits .own
+unfoldable pub listsHeard : List ℕ → OrderParts → Outcome (Reading Order)
+listsHeard s (O.Parts l) = accepted (reading (orderAt l s) (drop (l .end) s))
+listsHeard s (O.Refused f) = refused (numberOf f)
 
-unfoldable pub ListsPlaced : List ℕ → Lists → Type 0
-ListsPlaced s (L.Parts n m middle third) = ListsPlace s n m middle third
-ListsPlaced s (L.Refused f) = Unit {0}
+pub record ListsLaid (s : List ℕ) (l : OrderLayout) : Type 0 where
+  pub gateEnd : l .middle ≡ listSize (l .gate)
+  pub ownEnd : l .end ≡ l .middle + listSize (l .own)
+  pub inside : l .end ≤ length s
+  pub gateLimit : l .gate ≤ limits .gate
+  pub ownLimit : l .own ≤ limits .own
 
-pub record ListsRead (s : List ℕ) (r : Lists) : Type 0 where
+pub record ListsRead (s : List ℕ) (r : OrderParts) : Type 0 where
   pub says : listsHeard s r ≡ listsIn limits s
-  pub place : ListsPlaced s r
+  pub laid : OfOrder (ListsLaid s) r
 
 -- An order sheet: it ends where B ends.
 unfoldable pub orderHeard : List ℕ → OrderParts → Outcome Order
-orderHeard s (O.Parts n m middle) = accepted (listsOf n m middle s)
+orderHeard s (O.Parts l) = accepted (orderAt l s)
 orderHeard s (O.Refused f) = refused (numberOf f)
 
-unfoldable pub OrderPlaced : List ℕ → OrderParts → Type 0
-OrderPlaced s (O.Parts n m middle) = ListsPlace s n m middle (length s)
-OrderPlaced s (O.Refused f) = Unit {0}
+pub record OrderLaid (s : List ℕ) (l : OrderLayout) : Type 0 where
+  pub lists : ListsLaid s l
+  pub whole : l .end ≡ length s
 
 pub record OrderRead (s : List ℕ) (r : OrderParts) : Type 0 where
   pub says : orderHeard s r ≡ orderIn limits s
-  pub place : OrderPlaced s r
+  pub laid : OfOrder (OrderLaid s) r
 
 -- The limits with another total.
 abbrev pub withTotal : ℕ → Limits
@@ -115,41 +116,41 @@ unfoldable pub groupsHeard : ℕ → List ℕ → Groups → Outcome (Reading (L
 groupsHeard n s (G.Boxes count next) = accepted (reading (groupsFrom n s) (drop next s))
 groupsHeard n s (G.Refused f) = refused (numberOf f)
 
-pub record GroupsPlace (most n total : ℕ) (s : List ℕ) (count next : ℕ) : Type 0 where
+pub record GroupsLaid (most n total : ℕ) (s : List ℕ) (count next : ℕ) : Type 0 where
   pub boxes : count ≡ boxCount n s
   pub end : next ≡ countSize * n + boxSize * count
   pub inside : next ≤ length s
   pub limit : total + count ≤ most
 
-unfoldable pub GroupsPlaced : ℕ → ℕ → ℕ → List ℕ → Groups → Type 0
-GroupsPlaced most n total s (G.Boxes count next) = GroupsPlace most n total s count next
-GroupsPlaced most n total s (G.Refused f) = Unit {0}
+unfoldable pub OfBoxes : (ℕ → ℕ → Type 0) → Groups → Type 0
+OfBoxes says (G.Boxes count next) = says count next
+OfBoxes says (G.Refused f) = Unit {0}
 
 pub record GroupsRead (most n total : ℕ) (s : List ℕ) (r : Groups) : Type 0 where
   pub says : groupsHeard n s r ≡ groupsIn (withTotal most) n total s
-  pub place : GroupsPlaced most n total s r
+  pub laid : OfBoxes (GroupsLaid most n total s) r
 
--- A pair sheet, where section C begins at `third`.
-abbrev pub pairOf : ℕ → ℕ → ℕ → ℕ → List ℕ → Pair
-pairOf n m middle third s = record {
-  order = listsOf n m middle s;
-  groups = groupsFrom (denies (rulesOf n s)) (drop (third + countSize) s);
-}
+-- A pair sheet: its order sheet, and behind their count the groups, with nothing left.
+abbrev pub pairAt : PairLayout → List ℕ → Pair
+pairAt l s = record { order = orderAt (l .order) s; groups = groupsFrom (l .groups) (drop (l .from) s) }
 
 unfoldable pub pairHeard : List ℕ → PairParts → Outcome Pair
-pairHeard s (P.Parts n m middle third boxes) = accepted (pairOf n m middle third s)
+pairHeard s (P.Parts l) = accepted (pairAt l s)
 pairHeard s (P.Refused f) = refused (numberOf f)
 
-pub record PairPlace (s : List ℕ) (n m middle third boxes : ℕ) : Type 0 where
-  pub lists : ListsPlace s n m middle third
-  pub boxesAre : boxes ≡ length (together (pairOf n m middle third s .groups))
-  pub end : length s ≡ third + countSize + (countSize * denies (rulesOf n s) + boxSize * boxes)
-  pub totalLimit : boxes + m ≤ limits .total
+pub record PairLaid (s : List ℕ) (l : PairLayout) : Type 0 where
+  pub lists : ListsLaid s (l .order)
+  pub begin : l .from ≡ l .order .end + countSize
+  pub groupsAre : l .groups ≡ denies (rulesOf (l .order .gate) s)
+  pub boxesAre : l .boxes ≡ boxCount (l .groups) (drop (l .from) s)
+  pub groupsEnd : l .end ≡ l .from + (countSize * l .groups + boxSize * l .boxes)
+  pub whole : l .end ≡ length s
+  pub totalLimit : l .boxes + l .order .own ≤ limits .total
 
-unfoldable pub PairPlaced : List ℕ → PairParts → Type 0
-PairPlaced s (P.Parts n m middle third boxes) = PairPlace s n m middle third boxes
-PairPlaced s (P.Refused f) = Unit {0}
+unfoldable pub OfPair : (PairLayout → Type 0) → PairParts → Type 0
+OfPair says (P.Parts l) = says l
+OfPair says (P.Refused f) = Unit {0}
 
 pub record PairRead (s : List ℕ) (r : PairParts) : Type 0 where
   pub says : pairHeard s r ≡ pairIn limits s
-  pub place : PairPlaced s r
+  pub laid : OfPair (PairLaid s) r

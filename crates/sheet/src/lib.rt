@@ -36,15 +36,12 @@ pub enum Section {
     Refused(Refusal),
 }
 
-// Sections A and B: their counts, where B begins and where it ends.
-enum Lists {
-    Parts {
-        gate: usize,
-        own: usize,
-        middle: usize,
-        third: usize,
-    },
-    Refused(Refusal),
+// Where the parts of an order sheet lie: the counts of A and B, where B begins and where it ends.
+pub struct OrderLayout {
+    pub gate: usize,
+    pub own: usize,
+    pub middle: usize,
+    pub end: usize,
 }
 
 // Groups: how many boxes they have together and where they end.
@@ -53,25 +50,25 @@ enum Groups {
     Refused(Refusal),
 }
 
-// An order sheet: the counts of A and B, and where B begins.
+// Sections A and B.
 pub enum OrderParts {
-    Parts {
-        gate: usize,
-        own: usize,
-        middle: usize,
-    },
+    Parts(OrderLayout),
     Refused(Refusal),
 }
 
-// A pair sheet: the counts of A and B, where B and C begin, and how many boxes all groups have.
+// Where the parts of a pair sheet lie: those of its order sheet, which is its front; how many groups and boxes section C has, and where
+// the groups begin, behind their count, and end.
+pub struct PairLayout {
+    pub order: OrderLayout,
+    pub groups: usize,
+    pub boxes: usize,
+    pub from: usize,
+    pub end: usize,
+}
+
+// A pair sheet.
 pub enum PairParts {
-    Parts {
-        gate: usize,
-        own: usize,
-        middle: usize,
-        third: usize,
-        boxes: usize,
-    },
+    Parts(PairLayout),
     Refused(Refusal),
 }
 
@@ -117,7 +114,7 @@ pub fn count_denies(s: &[u8], n: usize) -> usize
     let mut i: usize = 0;
     while i < n {
         let rule = wire::rule_at(s, at);
-        if rule.action != 1 {
+        if !rule.is_allow() {
             count += 1;
         }
         at += RECORD_BYTES;
@@ -169,22 +166,22 @@ pub fn read_list(s: &[u8], most: usize) -> Section
 }
 
 // Section A, and section B, which begins wherever A ends.
-fn read_lists(s: &[u8]) -> Lists
+fn read_lists(s: &[u8]) -> OrderParts
     ensures { λ r. ⌜ ListsRead (now (s .entry)) r ⌝ }
 {
     match read_section(s, GATE_MOST) {
-        Section::Refused(f) => Lists::Refused(f),
+        Section::Refused(f) => OrderParts::Refused(f),
         Section::Rules {
             count: gate,
             next: middle,
         } => match read_section(&s[middle..], OWN_MOST) {
-            Section::Refused(f) => Lists::Refused(f),
-            Section::Rules { count: own, next } => Lists::Parts {
+            Section::Refused(f) => OrderParts::Refused(f),
+            Section::Rules { count: own, next } => OrderParts::Parts(OrderLayout {
                 gate,
                 own,
                 middle,
-                third: middle + next,
-            },
+                end: middle + next,
+            }),
         },
     }
 }
@@ -194,17 +191,12 @@ pub fn read_order(s: &[u8]) -> OrderParts
     ensures { λ r. ⌜ OrderRead (now (s .entry)) r ⌝ }
 {
     match read_lists(s) {
-        Lists::Refused(f) => OrderParts::Refused(f),
-        Lists::Parts {
-            gate,
-            own,
-            middle,
-            third,
-        } => {
-            if third < s.len() {
+        OrderParts::Refused(f) => OrderParts::Refused(f),
+        OrderParts::Parts(order) => {
+            if order.end < s.len() {
                 return OrderParts::Refused(Refusal::LengthWrong);
             }
-            OrderParts::Parts { gate, own, middle }
+            OrderParts::Parts(order)
         }
     }
 }
@@ -260,35 +252,33 @@ pub fn read_pair(s: &[u8]) -> PairParts
     ensures { λ r. ⌜ PairRead (now (s .entry)) r ⌝ }
 {
     match read_lists(s) {
-        Lists::Refused(f) => PairParts::Refused(f),
-        Lists::Parts {
-            gate,
-            own,
-            middle,
-            third,
-        } => {
-            let left = s.len() - third;
+        OrderParts::Refused(f) => PairParts::Refused(f),
+        OrderParts::Parts(order) => {
+            let at = order.end;
+            let own = order.own;
+            let left = s.len() - at;
             if left < COUNT_BYTES {
                 return PairParts::Refused(Refusal::LengthWrong);
             }
-            let groups = count_denies(s, gate);
-            if wire::count_at(s, third) != groups {
+            let groups = count_denies(s, order.gate);
+            if wire::count_at(s, at) != groups {
                 return PairParts::Refused(Refusal::GroupsDiffer);
             }
-            let from = third + COUNT_BYTES;
+            let from = at + COUNT_BYTES;
             match read_groups(&s[from..], groups, own, TOTAL_MOST) {
                 Groups::Refused(f) => PairParts::Refused(f),
                 Groups::Boxes { count: boxes, next } => {
                     if next < s.len() - from {
                         return PairParts::Refused(Refusal::LengthWrong);
                     }
-                    PairParts::Parts {
-                        gate,
-                        own,
-                        middle,
-                        third,
+                    let end = from + next;
+                    PairParts::Parts(PairLayout {
+                        order,
+                        groups,
                         boxes,
-                    }
+                        from,
+                        end,
+                    })
                 }
             }
         }

@@ -1,4 +1,3 @@
-pub mod Misses
 pub mod Turns
 pub mod Agreement
 pub mod Examples

@@ -1,10 +1,9 @@
 -- The words in which the code goes about a lookup in a table. Assumes nothing.
-use mathlib.Core.Bool.{Bool, cond, _&&_}
+use mathlib.Core.Bool.{Bool, _&&_}
 use Prim.Native.Nat.{ℕ}
 use lib.Dec.{leb, ltb, eqb}
 use lib.ListN.{replicate}
 use Rattle.policy.specs.Fields.{fields}
-use Rattle.policy.specs.Ranges.{Range, within}
 use Rattle.policy.specs.Refusals.{refused, test}
 use Rattle.policy.specs.declared.Rule.{Rule as RuleValue}
 use Rattle.filter.specs.Lookup.{lookupNumber}
@@ -20,10 +19,6 @@ counted most n = lookupNumber (test (leb 1 n) 2 (test (leb n most) 2 (refused 5)
 -- Whether the rule at place i of n is still to be tried.
 unfoldable pub goingOn : ℕ → ℕ → ℕ → Bool
 goingOn i n answer = ltb i n && eqb answer noneFits
-
--- 1 for a value outside a range, 0 for one inside it.
-abbrev pub missOf : ℕ → Range → ℕ
-missOf x r = cond (within x r) 0 1
 
 -- What stands past a table's end.
 abbrev pub blank : RuleValue

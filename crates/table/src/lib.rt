@@ -1,8 +1,6 @@
 // Lookup of a packet in a table of rules in memory. `judge_at` and `lookup_number` are lent the slice and are walked by hand;
 // they are thin, and what they decide stands in the functions before them.
-use filter::is_within;
-use policy::Box;
-use policy::FIELDS;
+use filter::is_inside;
 use policy::Packet;
 use policy::Refusal;
 use policy::Rule;
@@ -10,39 +8,13 @@ use policy::TOTAL_MOST;
 use policy::refused_number;
 ghost use mathlib.Core.Path.{_≡_};
 ghost use mathlib.Core.List.{[], _∷_, map};
-ghost use Prim.Native.Nat.{_<_, _≤_};
+ghost use Prim.Native.Nat.{_<_};
 ghost use lib.ListN.{length, getD};
 ghost use Rattle.policy.specs.Fields.{limits};
-ghost use Rattle.policy.specs.Ranges.{range, inside, Whole};
-ghost use Rattle.policy.specs.Values.{regionOf, ruleOf, packetOf};
+ghost use Rattle.policy.specs.Values.{ruleOf, packetOf};
 ghost use Rattle.filter.specs.Lookup.{lookFrom, lookupNumber};
 ghost use Rattle.table.specs.Table.{lookupTable};
-ghost use Rattle.table.specs.Steps.{blank, counted, goingOn, missOf};
-
-// 1 for a field outside its range, 0 for one inside it.
-fn miss(x: u32, low: u32, high: u32) -> u32
-    requires { ⌜ low ≤ high ⌝ }
-    ensures { λ r. ⌜ (r ≡ missOf x (range low high)) × (r ≤ 1) ⌝ }
-{
-    if is_within(x, low, high) {
-        return 0;
-    }
-    1
-}
-
-// A box that is not empty has the packet if no field is outside its range. The misses are counted, and none ends the count: so the
-// time does not hang on which field misses.
-fn is_inside(p: Packet, bounds: Box) -> bool
-    requires { ⌜ Whole (regionOf bounds) ⌝ }
-    ensures { λ r. ⌜ r ≡ inside (packetOf p) (regionOf bounds) ⌝ }
-{
-    let values = p.values;
-    let mut missed: u32 = 0;
-    for k in 0..FIELDS {
-        missed += miss(values[k], bounds.low_at(k), bounds.high_at(k));
-    }
-    missed == 0
-}
+ghost use Rattle.table.specs.Steps.{blank, counted, goingOn};
 
 // The answer before any rule is looked at: none fits so far, unless the count is outside its limits.
 fn opening(count: usize) -> u32

@@ -17,7 +17,7 @@ ghost use lib.ListN.{length};
 // An edit as the stream has it.
 struct Edit {
     kind: u8,
-    list: u8,
+    which: u8,
     place: usize,
     record: [u8; RECORD_BYTES],
 }
@@ -39,7 +39,7 @@ fn read_number() -> usize
 
 fn read_edit() -> Edit {
     let kind = read_byte();
-    let list = read_byte();
+    let which = read_byte();
     let place = read_number();
     let mut record = [0u8; RECORD_BYTES];
     if kind != 1 {
@@ -47,13 +47,13 @@ fn read_edit() -> Edit {
     }
     Edit {
         kind,
-        list,
+        which,
         place,
         record,
     }
 }
 
-// A byte times its place, counted from 1.
+// A byte times its number, counted from 1.
 fn weighed(byte: u8, i: usize) -> usize
     requires { ⌜ i < 65536 ⌝ }
     ensures { λ r. ⌜ r ≤ 16777216 ⌝ }
@@ -61,7 +61,7 @@ fn weighed(byte: u8, i: usize) -> usize
     (i + 1) * byte as usize
 }
 
-// The sum of the bytes of a sheet, each times its place.
+// The sum of the bytes of a sheet, each times its number.
 fn sum_of(sheet: &[u8], used: usize) -> usize
     requires { ⌜ length (now sheet) < 65536 ⌝ }
 {
@@ -81,14 +81,14 @@ fn sum_of(sheet: &[u8], used: usize) -> usize
 fn edited(sheet: &mut [u8], used: usize, e: Edit) -> u32 {
     let mut work = [0u8; WORK_BYTES];
     let record = e.record;
-    let list = e.list as u32;
+    let which = e.which as u32;
     if e.kind == 0 {
-        return foldplover_insert(sheet, used, list, e.place, &record, &mut work);
+        return foldplover_insert(sheet, used, which, e.place, &record, &mut work);
     }
     if e.kind == 1 {
-        return foldplover_delete(sheet, used, list, e.place, &mut work);
+        return foldplover_delete(sheet, used, which, e.place, &mut work);
     }
-    foldplover_replace(sheet, used, list, e.place, &record, &mut work)
+    foldplover_replace(sheet, used, which, e.place, &record, &mut work)
 }
 
 // One edit done and printed, unless the move was refused; the sheet's length after it.

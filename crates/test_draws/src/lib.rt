@@ -23,7 +23,7 @@ const LONG_BYTES: usize = RECORD_BYTES + 1;
 // An edit; its record is the first `size` of the bytes.
 pub struct Edit {
     pub kind: u32,
-    pub list: u32,
+    pub which: u32,
     pub place: usize,
     pub size: usize,
     pub record: [u8; LONG_BYTES],
@@ -225,15 +225,15 @@ fn draw_any(dice: &mut u32, shape: Shape) -> Rule {
 // An edit of the lists that an order sheet has.
 pub fn draw_edit(dice: &mut u32, order: &[u8], shape: Shape) -> Edit {
     let kind = draw_kind(dice, shape);
-    let list = draw_list(dice, shape);
-    let place = draw_place(dice, count_in(order, list), kind);
+    let which = draw_list(dice, shape);
+    let place = draw_place(dice, count_in(order, which), kind);
     let size = draw_size(dice);
     let rule = draw_any(dice, shape);
     let mut record = [0u8; LONG_BYTES];
     wire::put_rule(&mut record, 0, rule);
     Edit {
         kind,
-        list,
+        which,
         place,
         size,
         record,

@@ -13,7 +13,7 @@ ghost use Rattle.policy.specs.Fields.{recordSize};
 // The largest order sheet, and a record more: an insert may make a list too long.
 pub const LISTS_BYTES: usize = ORDER_BYTES + RECORD_BYTES;
 
-// The count at a place; 0 behind the end.
+// The count at `at`; 0 behind the end.
 fn count_at(order: &[u8], at: usize) -> usize
     ensures { λ r. ⌜ r < 65536 ⌝ }
 {
@@ -27,20 +27,20 @@ fn count_at(order: &[u8], at: usize) -> usize
 }
 
 // Where the section of A, or that of B, begins.
-fn start_of(order: &[u8], list: u32) -> usize
+fn start_of(order: &[u8], which: u32) -> usize
     ensures { λ r. ⌜ r < 2097152 ⌝ }
 {
-    if list == 0 {
+    if which == 0 {
         return 0;
     }
     COUNT_BYTES + RECORD_BYTES * count_at(order, 0)
 }
 
 // How many rules A, or B, has.
-pub fn count_in(order: &[u8], list: u32) -> usize
+pub fn count_in(order: &[u8], which: u32) -> usize
     ensures { λ r. ⌜ r < 65536 ⌝ }
 {
-    count_at(order, start_of(order, list))
+    count_at(order, start_of(order, which))
 }
 
 fn end_of(order: &[u8]) -> usize {
@@ -49,10 +49,10 @@ fn end_of(order: &[u8]) -> usize {
 
 // Whether the lists have the place of an edit.
 pub fn has_place(order: &[u8], e: Edit) -> bool {
-    if 1 < e.list {
+    if 1 < e.which {
         return false;
     }
-    let count = count_in(order, e.list);
+    let count = count_in(order, e.which);
     if e.kind == INSERT {
         return e.place <= count;
     }
@@ -99,7 +99,7 @@ fn put_count(next: &mut [u8], at: usize, count: usize) {
     wire::put_count(next, at, count % 65536);
 }
 
-// The bytes from one place up to another; all of them where that is no part.
+// The bytes from `start` up to `end`; all of them where that is no part.
 pub fn part(bytes: &[u8], start: usize, end: usize) -> &[u8] {
     if end < start {
         return bytes;
@@ -110,7 +110,7 @@ pub fn part(bytes: &[u8], start: usize, end: usize) -> &[u8] {
     &bytes[start..end]
 }
 
-// Bytes put at a place of the next sheet; the place behind them.
+// Bytes put into the next sheet; where they end.
 fn add(next: &mut [u8], at: usize, new: &[u8]) -> usize {
     if next.len() < at {
         return at;
@@ -123,8 +123,8 @@ fn add(next: &mut [u8], at: usize, new: &[u8]) -> usize {
 
 // The order sheet with an edit done, written as the next one; its length.
 pub fn edit_order(order: &[u8], e: Edit, next: &mut [u8]) -> usize {
-    let start = start_of(order, e.list);
-    let count = count_in(order, e.list);
+    let start = start_of(order, e.which);
+    let count = count_in(order, e.which);
     let place = e.place;
     if count < place {
         return 0;

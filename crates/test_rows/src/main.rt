@@ -42,7 +42,7 @@ fn single(field: usize, value: u32) -> Rule
     }
 }
 
-// A count put at a place of the sheet; the place behind it.
+// A count put into the sheet; where it ends.
 fn add_count(order: &mut [u8], at: usize, count: usize) -> usize
     requires { ⌜ (at ≤ length (now order)) × (count < 65536) ⌝ }
     ensures { λ r. ⌜ r ≤ length (now (order .entry)) ⌝ }
@@ -54,7 +54,7 @@ fn add_count(order: &mut [u8], at: usize, count: usize) -> usize
     at + COUNT_BYTES
 }
 
-// A rule put at a place of the sheet; the place behind it.
+// A rule put into the sheet; where it ends.
 fn add_rule(order: &mut [u8], at: usize, rule: Rule) -> usize
     requires { ⌜ at ≤ length (now order) ⌝ }
     ensures { λ r. ⌜ r ≤ length (now (order .entry)) ⌝ }
@@ -144,14 +144,8 @@ fn print_boxes(sheet: &[u8], n: usize)
 {
     match sheet::read_pair(&sheet[..n]) {
         PairParts::Refused(_) => print_text(b"no pair sheet\n"),
-        PairParts::Parts {
-            gate: _,
-            own: _,
-            middle: _,
-            third: _,
-            boxes,
-        } => {
-            print_number(boxes);
+        PairParts::Parts(layout) => {
+            print_number(layout.boxes);
             print_text(b" boxes\n");
         }
     }
@@ -162,7 +156,7 @@ fn print_move(order: &[u8], end: usize)
 {
     let mut sheet = [0u8; PAIR_BYTES];
     let mut work = [0u8; WORK_BYTES];
-    match planner::move_order(&order[..end], &mut sheet, &mut work) {
+    match moving::move_order(&order[..end], &mut sheet, &mut work) {
         Answer::Refused(f) => print_refusal(f),
         Answer::Length(n) => print_boxes(&sheet, n),
     }

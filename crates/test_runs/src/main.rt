@@ -53,12 +53,12 @@ fn call_edit(sheet: &mut [u8], used: usize, e: Edit, work: &mut [u8]) -> u32 {
     let bytes = e.record;
     let record = part(&bytes, 0, e.size);
     if e.kind == INSERT {
-        return foldplover_insert(sheet, used, e.list, e.place, record, work);
+        return foldplover_insert(sheet, used, e.which, e.place, record, work);
     }
     if e.kind == DELETE {
-        return foldplover_delete(sheet, used, e.list, e.place, work);
+        return foldplover_delete(sheet, used, e.which, e.place, work);
     }
-    foldplover_replace(sheet, used, e.list, e.place, record, work)
+    foldplover_replace(sheet, used, e.which, e.place, record, work)
 }
 
 // An edit done on the pair sheet; the number that it is answered with.
@@ -110,7 +110,7 @@ fn count_up(tally: &mut [u32], i: usize) {
 }
 
 fn count_accepted(tally: &mut [u32], e: Edit) {
-    let from = BY_LIST + LIST_TALLIES * (e.list % 2) as usize;
+    let from = BY_LIST + LIST_TALLIES * (e.which % 2) as usize;
     count_up(tally, 0);
     count_up(tally, from + (e.kind % 3) as usize);
     if e.kind == DELETE {
@@ -197,7 +197,7 @@ fn print_count(n: u32) {
     print_number(n as usize);
 }
 
-// The counts of the tally from one place up to another.
+// The counts of the tally from `from` up to `to`.
 fn print_counts(tally: &[u32], from: usize, to: usize) {
     let mut i = from;
     while i < to {

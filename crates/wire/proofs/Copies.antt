@@ -45,7 +45,7 @@ module _ (by from : ℕ) (w : List ℕ) where
         ∙ (rw (drop-cons w i 0 (omega arith), set-at p (getD w i 0) (drop (suc i) w) x i front-length, t, add-one)
         (append-assoc (take from w) (take (i - from) s) (x ∷ drop (suc i) w) ∙ ap (λ (l : List ℕ). take from w ++ l) (sym (append-snoc (take (i - from) s) x (drop (suc i) w)))))
 
--- up, from the last one on: those from place i up to n are copied
+-- up, from the last one on: those from byte i up to n are copied
 module _ (by n : ℕ) (w : List ℕ) where
   abbrev pub upTo : ℕ → List ℕ
   upTo i = take (by + i) w ++ (take (n - i) (drop i w) ++ drop (by + n) w)

@@ -73,7 +73,7 @@ module _ {A : Type 0} (i : Items A) where
       let r = items-front n (drop (i .size) s) t (rw length-drop (omega arith)) in
       rw (i .read-front s t (omega arith), drop-append-le (i .size) s t (omega arith), r) refl
 
-  -- A loop over items: the item at a place, and those from it on.
+  -- A loop over items: the item at one turn, and those from it on.
   pub items-from : (k n : ℕ) (s : List ℕ) → drop k (readAll n s) ≡ readAll (n - k) (drop (i .size * k) s)
   unfolding eachIn
   items-from zero n s =

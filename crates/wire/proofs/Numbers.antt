@@ -83,7 +83,7 @@ bytes-back (suc w) s e h =
     let r : numberBytes w (numberIn t) ≡ t = bytes-back w t (length-take-le w s (omega arith)) (bytes-take w s h) in
     rw (d, m, r) (sym (take-suc s w 0 (omega arith)) ∙ take-all (suc w) s (omega arith))
 
--- The number that stands at a place, byte by byte.
+-- The number that begins at a byte, byte by byte.
 step : (x : ℕ) (s : List ℕ) (at next w : ℕ) → at < length s → next ≡ at + 1
     → numberFrom x (take (suc w) (drop at s)) ≡ numberFrom (x * 256 + getD s at 0) (take w (drop next s))
 unfolding numberFrom

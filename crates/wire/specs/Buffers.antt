@@ -10,7 +10,7 @@ use Rattle.policy.specs.Refusals.{Outcome, accepted, refused}
 unfoldable pub roomFor : ℕ → List ℕ → Bool
 roomFor n out = leb n (length out)
 
--- The bytes from one place up to another set to zero.
+-- The bytes from the first number up to the second set to zero.
 unfoldable pub zeroed : ℕ → ℕ → List ℕ → List ℕ
 zeroed from to out = take from out ++ (replicate (to - from) 0 ++ drop to out)
 

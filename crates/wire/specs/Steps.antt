@@ -14,10 +14,10 @@ lowFirst (suc w) x = x % 256 ∷ lowFirst w (x / 256)
 unfoldable pub isWidth : ℕ → Bool
 isWidth w = eqb w 4 || (eqb w 2 || eqb w 1)
 
--- Each byte from one place up to another taken from `by` places further up.
+-- Each byte from one up to another taken from `by` bytes further up.
 unfoldable pub copiedDown : ℕ → ℕ → ℕ → List ℕ → List ℕ
 copiedDown by from to out = take from out ++ (take (to - from) (drop (by + from) out) ++ drop to out)
 
--- The first n bytes put `by` places further up.
+-- The first n bytes put `by` bytes further up.
 unfoldable pub copiedUp : ℕ → ℕ → List ℕ → List ℕ
 copiedUp by n out = take by out ++ (take n out ++ drop (by + n) out)

@@ -93,7 +93,7 @@ fn put_one(out: &mut [u8], at: usize, x: u32)
     out[at] = (x % 256) as u8;
 }
 
-// The number of w bytes at a place.
+// The number of w bytes that begin at `at`.
 fn number_at(s: &[u8], at: usize, w: usize) -> u32
     requires { ⌜ (at + w ≤ length (now s)) × (isWidth w ≡ true) ⌝ }
     ensures { λ r. ⌜ r ≡ numberIn (take w (drop at (now (s .entry)))) ⌝ }
@@ -122,7 +122,7 @@ fn put_number(out: &mut [u8], at: usize, w: usize, x: u32)
     put_one(out, at, x);
 }
 
-// The count that stands at a place.
+// The count that stands at `at`.
 pub fn count_at(s: &[u8], at: usize) -> usize
     requires { ⌜ at + countSize ≤ length (now s) ⌝ }
     ensures { λ r. ⌜ (r ≡ numberIn (take countSize (drop at (now (s .entry))))) × (r < 65536) ⌝ }
@@ -137,7 +137,7 @@ pub fn put_count(out: &mut [u8], at: usize, n: usize)
     put_two(out, at, n as u32);
 }
 
-// The box whose bytes begin at a place. A high is read before its low, and so the compiler also compares it first: one compare less for
+// The box whose bytes begin at `at`. A high is read before its low, and so the compiler also compares it first: one compare less for
 // a piece that lies below an allow, one more for a piece above it.
 pub fn box_at(s: &[u8], at: usize) -> Box
     requires { ⌜ at + boxSize ≤ length (now s) ⌝ }
@@ -157,7 +157,7 @@ pub fn box_at(s: &[u8], at: usize) -> Box
     Box { low, high }
 }
 
-// The bytes of the first n fields of a box, from a place on. The walk goes through all fields, so that the compiler makes straight
+// The bytes of the first n fields of a box, from `at` on. The walk goes through all fields, so that the compiler makes straight
 // code of it wherever it knows n.
 pub fn put_fields(out: &mut [u8], at: usize, n: usize, b: Box)
     requires { ⌜ at + boxSize ≤ length (now out) ⌝ }
@@ -178,7 +178,7 @@ pub fn put_fields(out: &mut [u8], at: usize, n: usize, b: Box)
     }
 }
 
-// The bytes of a box, from a place on.
+// The bytes of a box, from `at` on.
 pub fn put_box(out: &mut [u8], at: usize, b: Box)
     requires { ⌜ at + boxSize ≤ length (now out) ⌝ }
     ensures { λ r. ⌜ now (out .exit) ≡ sets (now (out .entry)) at (boxBytes (regionOf b)) ⌝ }
@@ -186,7 +186,7 @@ pub fn put_box(out: &mut [u8], at: usize, b: Box)
     put_fields(out, at, FIELDS, b);
 }
 
-// The rule whose record begins at a place.
+// The rule whose record begins at `at`.
 pub fn rule_at(s: &[u8], at: usize) -> Rule
     requires { ⌜ at + recordSize ≤ length (now s) ⌝ }
     ensures { λ r. ⌜ ruleOf r ≡ ruleIn (drop at (now (s .entry))) ⌝ }
@@ -198,7 +198,7 @@ pub fn rule_at(s: &[u8], at: usize) -> Rule
     }
 }
 
-// The record of a rule, from a place on.
+// The record of a rule, from `at` on.
 pub fn put_rule(out: &mut [u8], at: usize, r: Rule)
     requires { ⌜ at + recordSize ≤ length (now out) ⌝ }
     ensures { λ _. ⌜ now (out .exit) ≡ sets (now (out .entry)) at (recordBytes (ruleOf r)) ⌝ }
@@ -208,7 +208,7 @@ pub fn put_rule(out: &mut [u8], at: usize, r: Rule)
     put_one(out, at + BOX_BYTES, r.action);
 }
 
-// Zero from one place up to another.
+// Zero from one byte up to another.
 pub fn zero(out: &mut [u8], from: usize, to: usize)
     requires { ⌜ (from ≤ to) × (to ≤ length (now out)) ⌝ }
     ensures { λ r. ⌜ now (out .exit) ≡ zeroed from to (now (out .entry)) ⌝ }
@@ -229,7 +229,7 @@ pub fn fill(out: &mut [u8], end: usize, content: &[u8])
     zero(out, n, end);
 }
 
-// The content from a place on, and where it ends.
+// The content from `at` on, and where it ends.
 pub fn put_bytes(out: &mut [u8], at: usize, content: &[u8]) -> usize
     requires { ⌜ at + length (now content) ≤ length (now out) ⌝ }
     ensures { λ r. ⌜ (r ≡ at + length (now (content .entry))) × (now (out .exit) ≡ sets (now (out .entry)) at (now (content .entry))) ⌝ }
@@ -238,7 +238,7 @@ pub fn put_bytes(out: &mut [u8], at: usize, content: &[u8]) -> usize
     at + content.len()
 }
 
-// The bytes from one place up to another, each taken from so many places further up.
+// The bytes from `from` up to `to`, each taken from so many bytes further up.
 pub fn copy_down(out: &mut [u8], by: usize, from: usize, to: usize)
     requires { ⌜ (from ≤ to) × (by + to ≤ length (now out)) ⌝ }
     ensures { λ r. ⌜ now (out .exit) ≡ copiedDown by from to (now (out .entry)) ⌝ }
@@ -250,7 +250,7 @@ pub fn copy_down(out: &mut [u8], by: usize, from: usize, to: usize)
     }
 }
 
-// The first n bytes, each put so many places further up; the last one first, since the two stretches may overlap.
+// The first n bytes, each put so many bytes further up; the last one first, since the two stretches may overlap.
 pub fn copy_up(out: &mut [u8], by: usize, n: usize)
     requires { ⌜ by + n ≤ length (now out) ⌝ }
     ensures { λ r. ⌜ now (out .exit) ≡ copiedUp by n (now (out .entry)) ⌝ }

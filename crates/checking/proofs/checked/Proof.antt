@@ -2,7 +2,7 @@
 use borrow.Author.Needs.{needs}
 use mathlib.Core.Path.{_∙_}
 use Rattle.policy.specs.Fields.{workSize}
-use Rattle.planner.proofs.Calls.{zeroed-same}
+use Rattle.promises.proofs.Calls.{zeroed-same}
 use Rattle.checking.proofs.checked.Statement.{statement}
 use Rattle.checking.proofs.checked.Tie as tie
 

@@ -10,7 +10,7 @@ use Rattle.checking.proofs.is_same.Tie as tie
 
 slice-aggregate-same-bytes : tie.Need-slice-aggregate-same-bytes
 slice-aggregate-same-bytes c =
-    let h = c .before .before .before .before .pre .1 (c .before .if1 .taken) in
+    let h = c .before .before .before .before .before .pre .1 (c .before .if1 .taken) in
     simp length-take (omega arith)
 
 sub-same-bytes : tie.Need-sub-same-bytes
@@ -27,9 +27,9 @@ same-bytes-requires c κs = search needs
 
 returns : tie.Need-returns
 returns c =
-    let start = c .before .before .before .before .before .before in
+    let start = c .before .before .before .before .before .before .before in
     let a = start .args in
-    let part = tail-whole (a .sheet .now) (a .from) (start .pre .0) in
+    let part = tail-whole (a .sheet .now) (a .layout .from) (start .pre .0) in
     let found = c .same-bytes .ensures in
     record {
       yes = λ f. (c .before .before .before .if1 .taken, found .0 f ∙ part);

@@ -1,4 +1,4 @@
--- `same_bytes` meets its contract: the bytes before the place are the same. Assumes nothing.
+-- `same_bytes` meets its contract: the bytes before `i` are the same. Assumes nothing.
 use borrow.Author.Needs.{needs}
 use native.Mathlib.Omega.{arith}
 use mathlib.Core.Path.{_≡_, refl, ap, sym, _∙_}

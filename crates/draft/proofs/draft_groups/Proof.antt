@@ -2,15 +2,16 @@
 use borrow.Author.Needs.{needs}
 use native.Mathlib.Omega.{arith}
 use Prim.Native.Nat.{_-_}
-use Rattle.draft.proofs.Turns.{Going, going-first, going-ready, going-next, going-over, going-done}
+use Rattle.policy.specs.Move.{alone}
+use Rattle.draft.proofs.Turns.{Going, going-first, going-ready, going-count, going-next, going-over, going-done}
 use Rattle.draft.proofs.draft_groups.Statement.{statement}
 use Rattle.draft.proofs.draft_groups.Tie as tie
 
 abbrev Inv-loop : tie.InvT-loop
-Inv-loop rules from to draft₀ at boxes work₀ i₀ end₀ sum₀ draft work i end sum = Going rules from to draft₀ at boxes work₀ draft work i end sum
+Inv-loop rules from to boxes draft₀ work₀ i₀ count₀ end₀ sum₀ draft work i count end sum = Going alone rules from to draft₀ boxes work₀ draft work i count end sum
 
 abbrev μ-loop : tie.MeasureT-loop
-μ-loop rules from to draft₀ at boxes work₀ i₀ end₀ sum₀ draft work i end sum = to - i
+μ-loop rules from to boxes draft₀ work₀ i₀ count₀ end₀ sum₀ draft work i count end sum = to - i
 
 loop-holds : tie.Need-loop-holds Inv-loop μ-loop
 loop-holds c = going-first (c .before .before .before .pre)
@@ -30,8 +31,13 @@ same-length-2 c = search needs
 returns : tie.Need-returns Inv-loop μ-loop
 returns c = going-over (c .before .before .before .before .before .before .before .before .before .before .before .before .before .before .pre) (c .before .before .before .before .before .before .before .before .before .before .loop .inv) (omega arith) (rw (c .enum-told .given .1) at (c .before .before .before .before .before .before .draft-one .ensures))
 
-enum-known-b : tie.Need-enum-known-b Inv-loop μ-loop
-enum-known-b c = search needs
+enum-known-g : tie.Need-enum-known-g Inv-loop μ-loop
+enum-known-g c = search needs
+
+add-count : tie.Need-add-count Inv-loop μ-loop
+add-count c =
+    let k = going-count (c .before .before .before .before .before .before .before .before .before .before .before .before .before .before .before .pre) (c .before .before .before .before .before .before .before .before .before .before .before .loop .inv) (omega arith) (rw (c .before .g .given .1) at (c .before .before .before .before .before .before .before .draft-one .ensures)) in
+    omega (arith, k, c .before .before .before .before .before .before .before .before .before .before .before .loop .inv .few, c .before .before .before .before .before .before .before .before .before .before .before .loop .inv .upTo, c .before .before .before .before .before .before .before .before .before .before .before .before .before .before .before .pre .gate)
 
 add-i : tie.Need-add-i Inv-loop μ-loop
 add-i c = search needs
@@ -40,7 +46,7 @@ loop-less : tie.Need-loop-less Inv-loop μ-loop
 loop-less c = search needs
 
 loop-again : tie.Need-loop-again Inv-loop μ-loop
-loop-again c = going-next (c .before .before .before .before .before .before .before .before .before .before .before .before .before .before .before .pre) (c .before .before .before .before .before .before .before .before .before .before .before .loop .inv) (omega arith) (rw (c .before .b .given .1) at (c .before .before .before .before .before .before .before .draft-one .ensures)) (search needs) (search needs)
+loop-again c = going-next (c .before .before .before .before .before .before .before .before .before .before .before .before .before .before .before .pre) (c .before .before .before .before .before .before .before .before .before .before .before .loop .inv) (omega arith) (rw (c .before .g .given .1) at (c .before .before .before .before .before .before .before .draft-one .ensures)) (search needs) (search needs)
 
 same-length-3 : tie.Need-same-length-3 Inv-loop μ-loop
 same-length-3 c = c .before .loop .inv .long
@@ -63,7 +69,8 @@ draft-groups-spec =
     same-length
     same-length-2
     returns
-    enum-known-b
+    enum-known-g
+    add-count
     add-i
     loop-less
     loop-again

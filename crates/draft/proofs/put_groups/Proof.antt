@@ -1,4 +1,4 @@
--- `put_groups` meets its contract: the groups up to a place of the draft stand in the sheet. Assumes nothing.
+-- `put_groups` meets its contract: the groups up to a byte of the draft stand in the sheet. Assumes nothing.
 use borrow.Author.Needs.{needs}
 use native.Mathlib.Omega.{arith}
 use mathlib.Core.Path.{_≡_, refl}

@@ -1,7 +1,7 @@
 -- `foldplover_cell_list` meets its contract: it hands over to `cell_list`. Assumes nothing.
 use borrow.Author.Needs.{needs}
 use native.Mathlib.Omega.{arith}
-use Rattle.planner.specs.Calls.{cellBytes, cellListSize}
+use Rattle.promises.specs.Calls.{cellBytes, cellListSize}
 use Rattle.policy.specs.Refusals.{said}
 use Rattle.foldplover.specs.Coded.{Plain}
 use Rattle.foldplover.proofs.Plain.{call-plain}

@@ -1,4 +1,4 @@
--- `cut_pieces` meets its contract: the loop's invariant says what is left of the pieces from place i on. Assumes nothing.
+-- `cut_pieces` meets its contract: the loop's invariant says what is left of the pieces from piece i on. Assumes nothing.
 use borrow.Author.Needs.{needs}
 use mathlib.Core.Path.{_≡_, _∙_}
 use Prim.Native.Nat.{_-_}

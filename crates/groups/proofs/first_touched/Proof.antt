@@ -1,4 +1,4 @@
--- `first_touched` meets its contract: the loop's invariant says that the pieces before place i stay. Assumes nothing.
+-- `first_touched` meets its contract: the loop's invariant says that the pieces before piece i stay. Assumes nothing.
 use borrow.Author.Needs.{needs}
 use mathlib.Core.Path.{sym, _∙_}
 use Prim.Native.Nat.{_-_}

@@ -9,14 +9,14 @@ use Rattle.groups.proofs.Stores.{stored-in, stored-past}
 use Rattle.groups.proofs.keep_box.Statement.{statement}
 use Rattle.groups.proofs.keep_box.Tie as tie
 
-mul-move-box : tie.Need-mul-move-box
-mul-move-box c = search needs
+mul-copy-box : tie.Need-mul-copy-box
+mul-copy-box c = search needs
 
-add-move-box : tie.Need-add-move-box
-add-move-box c = search needs
+add-copy-box : tie.Need-add-copy-box
+add-copy-box c = search needs
 
-move-box-requires : tie.Need-move-box-requires
-move-box-requires c κs = search needs
+copy-box-requires : tie.Need-copy-box-requires
+copy-box-requires c κs = search needs
 
 add-result : tie.Need-add-result
 add-result c = search needs
@@ -27,7 +27,7 @@ same-length c = search needs
 returns : tie.Need-returns
 returns c =
     let x = c .before .before .before .before .before .before in
-    stored-in (x .args .half) (x .args .work .now) (c .before .before .move-box .last .0) (x .args .m) _ _ (omega arith) refl (c .before .before .move-box .ensures ∙ ap (sets (x .args .work .now) (x .args .half + boxSize * x .args .m)) (x .pre .1))
+    stored-in (x .args .half) (x .args .work .now) (c .before .before .copy-box .last .0) (x .args .m) _ _ (omega arith) refl (c .before .before .copy-box .ensures ∙ ap (sets (x .args .work .now) (x .args .half + boxSize * x .args .m)) (x .pre .1))
 
 add-result-2 : tie.Need-add-result-2
 add-result-2 c = search needs
@@ -41,9 +41,9 @@ pub keep-box-spec : {M : Type 1} → statement M
 keep-box-spec =
     tie.close
     (tie.spec
-    mul-move-box
-    add-move-box
-    move-box-requires
+    mul-copy-box
+    add-copy-box
+    copy-box-requires
     add-result
     same-length
     returns

@@ -18,8 +18,8 @@ mul-to c = search needs
 add-to : tie.Need-add-to
 add-to c = search needs
 
-move-box-requires : tie.Need-move-box-requires
-move-box-requires c κs = search needs
+copy-box-requires : tie.Need-copy-box-requires
+copy-box-requires c κs = search needs
 
 add-put-fields : tie.Need-add-put-fields
 add-put-fields c = search needs
@@ -41,8 +41,8 @@ returns c =
     let h : length (a .part .high) ≡ fields = search needs in
     let last = c .before .before .put-fields .last .0 in
     stored-in (a .half) (a .work .now) last (a .m) _ (regionOf (a .part)) (omega arith) refl
-    (part-stored (a .k) (regionOf (a .part)) (ranges-length (a .part .low) (a .part .high) (cc) ∙ l) (a .work .now) (c .before .before .before .before .before .before .move-box .last .0) last (a .at) (a .half + boxSize * a .m)
-    (omega arith) (omega arith) (x .pre .1) (c .before .before .before .before .before .before .move-box .ensures) (c .before .before .put-fields .ensures))
+    (part-stored (a .k) (regionOf (a .part)) (ranges-length (a .part .low) (a .part .high) (cc) ∙ l) (a .work .now) (c .before .before .before .before .before .before .copy-box .last .0) last (a .at) (a .half + boxSize * a .m)
+    (omega arith) (omega arith) (x .pre .1) (c .before .before .before .before .before .before .copy-box .ensures) (c .before .before .put-fields .ensures))
 
 add-result-2 : tie.Need-add-result-2
 add-result-2 c = search needs
@@ -58,7 +58,7 @@ store-part-spec =
     (tie.spec
     mul-to
     add-to
-    move-box-requires
+    copy-box-requires
     add-put-fields
     put-fields-requires
     add-result

@@ -11,12 +11,12 @@ use Rattle.listing.proofs.deny_boxes.Statement.{statement}
 use Rattle.listing.proofs.deny_boxes.Tie as tie
 
 abbrev Inv-loop : tie.InvT-loop
-Inv-loop list₀ at sheet from n start₀ place₀ left₀ list start place left =
-    (start + boxSize * left ≤ length sheet) × (place + recordSize * left ≤ length list₀)
-    × Leads list₀ at (boxRecords n (drop from sheet)) list place (boxRecords left (drop start sheet))
+Inv-loop list₀ at sheet from n start₀ to₀ left₀ list start to left =
+    (start + boxSize * left ≤ length sheet) × (to + recordSize * left ≤ length list₀)
+    × Leads list₀ at (boxRecords n (drop from sheet)) list to (boxRecords left (drop start sheet))
 
 abbrev μ-loop : tie.MeasureT-loop
-μ-loop list₀ at sheet from n start₀ place₀ left₀ list start place left = left
+μ-loop list₀ at sheet from n start₀ to₀ left₀ list start to left = left
 
 loop-holds : tie.Need-loop-holds Inv-loop μ-loop
 loop-holds c = (c .before .before .pre .0, c .before .before .pre .1, leads-first _ _ _)
@@ -30,8 +30,8 @@ put-rule-requires c κs = omega (arith, c .before .before .before .loop .inv .2 
 add-start : tie.Need-add-start Inv-loop μ-loop
 add-start c = search needs
 
-add-place : tie.Need-add-place Inv-loop μ-loop
-add-place c = omega (arith, c .before .before .before .before .before .before .loop .inv .2 .long)
+add-to : tie.Need-add-to Inv-loop μ-loop
+add-to c = omega (arith, c .before .before .before .before .before .before .loop .inv .2 .long)
 
 sub-left : tie.Need-sub-left Inv-loop μ-loop
 sub-left c = search needs
@@ -62,7 +62,7 @@ deny-boxes-spec =
     box-at-requires
     put-rule-requires
     add-start
-    add-place
+    add-to
     sub-left
     loop-less
     loop-again

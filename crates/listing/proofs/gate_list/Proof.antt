@@ -1,8 +1,10 @@
 -- `gate_list` meets its contract. Assumes nothing.
 use borrow.Author.Needs.{needs}
+use mathlib.Core.Path.{_≡_}
+use mathlib.Core.Bool.{true}
 use Rattle.policy.specs.Fields.{limits, workSize}
-use Rattle.planner.specs.Calls.{checkOf, gateBytes, gateListSize}
-use Rattle.planner.proofs.Calls.{room-short, work-short, both-there, call-short}
+use Rattle.promises.specs.Calls.{bothLent, checkOf, gateBytes, gateListSize}
+use Rattle.promises.proofs.Calls.{room-short, work-short, both-there, call-short}
 use Rattle.listing.proofs.Listing.{gate-put, list-refused, list-written}
 use Rattle.listing.proofs.gate_list.Statement.{statement}
 use Rattle.listing.proofs.gate_list.Tie as tie
@@ -10,15 +12,23 @@ use Rattle.listing.proofs.gate_list.Tie as tie
 returns : tie.Need-returns
 returns c =
     let a = c .before .before .before .before .args in
-    call-short gateBytes gateListSize _ (checkOf limits (a .sheet .now)) (a .list .now) (a .work .now) (room-short gateListSize (a .list .now) _ (c .if1 .taken))
+    call-short gateBytes gateListSize _ (checkOf limits (a .sheet .now)) (a .out .now) (a .work .now) (room-short gateListSize (a .out .now) _ (c .if1 .taken))
 
 returns-2 : tie.Need-returns-2
 returns-2 c =
     let a = c .before .before .before .before .before .args in
-    call-short gateBytes gateListSize _ (checkOf limits (a .sheet .now)) (a .list .now) (a .work .now) (work-short gateListSize workSize (a .list .now) (a .work .now) (c .before .if1 .left) (c .if2 .taken))
+    call-short gateBytes gateListSize _ (checkOf limits (a .sheet .now)) (a .out .now) (a .work .now) (work-short gateListSize workSize (a .out .now) (a .work .now) (c .before .if1 .left) (c .if2 .taken))
 
 checked-requires : tie.Need-checked-requires
 checked-requires c κs = search needs
+
+-- what is lent is long enough
+module _ (c : tie.After-checked) where
+  abbrev start : tie.Start
+  start = c .before .before .before .before .before .before .before
+
+  lent : bothLent gateListSize (start .args .out .now) (start .args .work .now) ≡ true
+  lent = both-there gateListSize workSize (start .args .out .now) (start .args .work .now) (c .before .before .before .if1 .left) (c .before .before .if2 .left)
 
 enum-known-f : tie.Need-enum-known-f
 enum-known-f c = search needs
@@ -40,9 +50,9 @@ same-length c = search needs
 
 returns-3 : tie.Need-returns-3
 returns-3 c =
-    let a = c .before .before .before .before .before .before .before .before .before .before .before .before .args in
-    list-refused gateBytes gateListSize _ (a .sheet .now) (a .list .now) (a .work .now) (both-there gateListSize workSize (a .list .now) (a .work .now) (c .before .before .before .before .before .before .before .before .if1 .left) (c .before .before .before .before .before .before .before .if2 .left))
-    (c .before .before .before .before .before .checked .ensures .1) (rw (c .before .f .given .1) at (c .before .before .before .before .before .checked .ensures .0))
+    let k = c .before .before .before .before .before in
+    let a = start k .args in
+    list-refused gateBytes gateListSize _ (a .sheet .now) (a .out .now) (a .work .now) (lent k) (k .checked .ensures .1) (rw (c .before .f .given .1) at (k .checked .ensures .0))
 
 same-length-2 : tie.Need-same-length-2
 same-length-2 c = search needs
@@ -52,10 +62,10 @@ same-length-3 c = search needs
 
 returns-4 : tie.Need-returns-4
 returns-4 c =
-    let a = c .before .before .before .before .before .before .before .before .before .before .before .before .before .before .before .before .before .before .before .before .args in
-    list-written gateBytes gateListSize _ (a .sheet .now) (a .list .now) (a .work .now) (both-there gateListSize workSize (a .list .now) (a .work .now) (c .before .before .before .before .before .before .before .before .before .before .before .before .before .before .before .before .if1 .left) (c .before .before .before .before .before .before .before .before .before .before .before .before .before .before .before .if2 .left))
-    (c .before .before .before .before .before .before .before .before .before .before .before .before .before .checked .ensures .1) (rw (c .before .before .before .before .before .before .before .before .before .enum-told .given .1) at (c .before .before .before .before .before .before .before .before .before .before .before .before .before .checked .ensures .0))
-    (gate-put _ (a .list .now) _ _ _ (c .before .before .before .before .before .before .before .before .before .before .before .before .before .before .before .before .if1 .left) (c .before .before .before .allow-all .ensures) (c .before .before .before .before .before .before .before .put-count .ensures) (c .before .before .put-rule .ensures))
+    let k = c .before .before .before .before .before .before .before .before .before .before .before .before .before in
+    let a = start k .args in
+    list-written gateBytes gateListSize _ (a .sheet .now) (a .out .now) (a .work .now) (lent k) (k .checked .ensures .1) (rw (c .before .before .before .before .before .before .before .before .before .enum-told .given .1) at (k .checked .ensures .0))
+    (gate-put _ (a .out .now) _ _ _ (k .before .before .before .if1 .left) (c .before .before .before .allow-all .ensures) (c .before .before .before .before .before .before .before .put-count .ensures) (c .before .before .put-rule .ensures))
 
 pub gate-list-spec : {M : Type 1} → statement M
 gate-list-spec =

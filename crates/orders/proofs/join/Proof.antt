@@ -46,18 +46,20 @@ returns-2 c =
 
 returns-3 : tie.Need-returns-3
 returns-3 c =
-    let a = c .before .before .before .before .before .before .before .before .before .before .before .args in
-    let g = c .before .before .before .before .before .before .read-list in
-    join-own-refusal (a .a .now) (a .b .now) (a .sheet .now) (c .before .before .before .before .before .before .before .if1 .left) {r = g .result} (g .ensures) (c .before .before .before .before .before .before .before .before .before .before .shared-slice-known .given) _ _ (c .before .before .before .before .enum-told .given .1) (c .before .before .before .read-list2 .ensures) _ (c .before .f2 .given .1)
+    let p = c .before .before .before .before in
+    let a = p .before .before .before .before .before .before .before .args in
+    let g = p .before .before .read-list in
+    join-own-refusal (a .a .now) (a .b .now) (a .sheet .now) (p .before .before .before .if1 .left) {r = g .result} (g .ensures) (p .before .before .before .before .before .before .shared-slice-known .given) _ _ (p .enum-told .given .1) (c .before .before .before .read-list2 .ensures) _ (c .before .f2 .given .1)
 
 same-length : tie.Need-same-length
 same-length c = search needs
 
 returns-4 : tie.Need-returns-4
 returns-4 c =
-    let a = c .before .before .before .before .before .before .before .before .before .before .before .before .before .before .args in
-    let g = c .before .before .before .before .before .before .before .before .before .read-list in
-    join-done (a .a .now) (a .b .now) (a .sheet .now) (c .before .before .before .before .before .before .before .before .before .before .if1 .left) {r = g .result} (g .ensures) (c .before .before .before .before .before .before .before .before .before .before .before .before .before .shared-slice-known .given) _ _ (c .before .before .before .before .before .before .before .enum-told .given .1) (c .before .before .before .before .before .before .read-list2 .ensures) (c .before .before .before .before .before .before .before .before .before .before .before .before .shared-slice-known2 .given) _ _ (c .before .before .before .before .enum-told2 .given .1) (c .before .before .fill-both .ensures)
+    let p = c .before .before .before .before .before .before .before in
+    let a = p .before .before .before .before .before .before .before .args in
+    let g = p .before .before .read-list in
+    join-done (a .a .now) (a .b .now) (a .sheet .now) (p .before .before .before .if1 .left) {r = g .result} (g .ensures) (p .before .before .before .before .before .before .shared-slice-known .given) _ _ (p .enum-told .given .1) (c .before .before .before .before .before .before .read-list2 .ensures) (p .before .before .before .before .before .shared-slice-known2 .given) _ _ (c .before .before .before .before .enum-told2 .given .1) (c .before .before .fill-both .ensures)
 
 pub join-spec : {M : Type 1} → statement M
 join-spec =

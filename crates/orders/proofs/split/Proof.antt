@@ -16,8 +16,8 @@ read-order-requires c κs = search needs
 enum-known-f : tie.Need-enum-known-f
 enum-known-f c = search needs
 
-enum-known-middle : tie.Need-enum-known-middle
-enum-known-middle c = search needs
+enum-known-layout : tie.Need-enum-known-layout
+enum-known-layout c = search needs
 
 slice-aggregate-fill : tie.Need-slice-aggregate-fill
 slice-aggregate-fill c = search (needs, gate-long)
@@ -35,7 +35,9 @@ part-fill-end : tie.Need-part-fill-end
 part-fill-end c = search needs
 
 fill-requires-2 : tie.Need-fill-requires-2
-fill-requires-2 c κs = (own-fits (c .before .before .before .before .before .before .before .before .before .before .read-order .ensures) _ _ _ (c .before .before .before .before .before .before .before .before .middle .given .1), search needs)
+fill-requires-2 c κs =
+    let l = c .before .before .before .before .before .before .before .before in
+    (own-fits (l .before .before .read-order .ensures) _ (l .layout .given .1), search needs)
 
 returns-3 : tie.Need-returns-3
 returns-3 c = search (needs, split-refusal)
@@ -48,8 +50,9 @@ same-length-2 c = search needs
 
 returns-4 : tie.Need-returns-4
 returns-4 c =
-    let a = c .before .before .before .before .before .before .before .before .before .before .before .before .before .before .before .before .before .before .before .args in
-    split-done (a .sheet .now) (a .a .now) (a .b .now) (c .before .before .before .before .before .before .before .before .before .before .before .before .before .before .before .if1 .left) (c .before .before .before .before .before .before .before .before .before .before .before .before .before .before .if2 .left) (c .before .before .before .before .before .before .before .before .before .before .before .before .before .read-order .ensures) (c .before .before .before .before .before .before .before .before .before .before .before .before .before .before .before .before .before .before .shared-slice-known .given) _ _ _ (c .before .before .before .before .before .before .before .before .before .before .before .middle .given .1) (c .before .before .before .before .before .before .before .fill .ensures) (c .before .before .fill2 .ensures)
+    let l = c .before .before .before .before .before .before .before .before .before .before .before in
+    let a = l .before .before .before .before .before .before .before .before .args in
+    split-done (a .sheet .now) (a .a .now) (a .b .now) (l .before .before .before .before .if1 .left) (l .before .before .before .if2 .left) (l .before .before .read-order .ensures) (l .before .before .before .before .before .before .before .shared-slice-known .given) _ (l .layout .given .1) (c .before .before .before .before .before .before .before .fill .ensures) (c .before .before .fill2 .ensures)
 
 pub split-spec : {M : Type 1} → statement M
 split-spec =
@@ -59,7 +62,7 @@ split-spec =
     returns-2
     read-order-requires
     enum-known-f
-    enum-known-middle
+    enum-known-layout
     slice-aggregate-fill
     fill-requires
     sub-fill

@@ -7,7 +7,7 @@ use lib.ListN.{length}
 use Rattle.policy.specs.Fields.{boxSize}
 use Rattle.policy.specs.Ranges.{inside}
 use Rattle.policy.specs.Values.{packetOf}
-use Rattle.origins.proofs.Boxes.{Left, left-all, left-none, box-inside, box-has, box-misses}
+use Rattle.origins.proofs.Boxes.{Left, left-all, left-none, box-inside, box-whole, box-has, box-misses}
 use Rattle.origins.proofs.first_box.Statement.{statement}
 use Rattle.origins.proofs.first_box.Tie as tie
 
@@ -20,7 +20,7 @@ abbrev μ-loop : tie.MeasureT-loop
 loop-holds : tie.Need-loop-holds Inv-loop μ-loop
 loop-holds c =
     let a = c .before .args in
-    (c .before .pre .0, left-all (packetOf (a .p)) (a .size) (a .s .now) (a .at) (a .n) (c .before .pre .1))
+    (c .before .pre .0, left-all (packetOf (a .p)) (a .size) (a .s .now) (a .at) (a .n) (c .before .pre .1) (c .before .pre .2))
 
 -- What is known at the head of the loop, with some boxes left.
 module _ (a : tie.At-loop Inv-loop μ-loop) (some : 0 < a .loop .left) where
@@ -37,7 +37,10 @@ box-at-requires : tie.Need-box-at-requires Inv-loop μ-loop
 box-at-requires c κs = omega (arith, there (c .before) (c .loop-test .taken), c .before .loop .inv .0)
 
 is-inside-requires : tie.Need-is-inside-requires Inv-loop μ-loop
-is-inside-requires c κs = search needs
+is-inside-requires c κs =
+    let a = c .before .before in
+    let v = a .before .before .args in
+    rw (c .box-at .ensures) (box-whole (packetOf (v .p)) (v .size) (v .s .now) (v .at) (v .n) (a .loop .start) (a .loop .left) (a .loop .inv .1) (a .loop .left - 1) (more a (c .before .loop-test .taken)))
 
 sub-result : tie.Need-sub-result Inv-loop μ-loop
 sub-result c = c .before .before .before .before .loop .inv .1 .0

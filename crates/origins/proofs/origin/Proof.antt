@@ -1,24 +1,14 @@
 -- `origin` meets its contract. Assumes nothing.
 use borrow.Author.Needs.{needs}
 use Rattle.origins.specs.Steps.{Checked}
-use Rattle.origins.specs.declared.Layout.{Layout}
-use Rattle.origins.proofs.Calls.{check-laid, traced-small, numbers-short, work-too-short, origin-refused, origin-told}
+use Rattle.origins.proofs.Calls.{passes-check, traced-small, numbers-short, work-too-short, origin-refused, origin-told}
 use Rattle.origins.proofs.origin.Statement.{statement}
 use Rattle.origins.proofs.origin.Tie as tie
 
 -- What is known once the sheet has passed check.
-module _ (c : tie.After-gate) where
-  abbrev layout : Layout
-  layout = record {
-    gate = c .gate .given .0 .0;
-    own = c .gate .given .0 .1 .0;
-    middle = c .gate .given .0 .1 .1 .0;
-    third = c .gate .given .0 .1 .1 .1 .0;
-    boxes = c .gate .given .0 .1 .1 .1 .1 .0;
-  }
-
-  laid : Checked (c .before .before .before .before .before .before .before .before .before .before .before .args .sheet .now) layout
-  laid = check-laid layout (rw (c .gate .given .1) at (c .before .before .before .before .checked .ensures .0))
+module _ (c : tie.After-layout) where
+  laid : Checked (c .before .before .before .before .before .before .before .before .before .before .before .args .sheet .now) (c .layout .given .0 .0)
+  laid = passes-check (rw (c .layout .given .1) at (c .before .before .before .before .checked .ensures .0))
 
 returns : tie.Need-returns
 returns c = numbers-short _ _ _ _ (c .if1 .taken)
@@ -32,8 +22,8 @@ checked-requires c κs = search needs
 enum-known-f : tie.Need-enum-known-f
 enum-known-f c = search needs
 
-enum-known-gate : tie.Need-enum-known-gate
-enum-known-gate c = search needs
+enum-known-layout : tie.Need-enum-known-layout
+enum-known-layout c = search needs
 
 trace-packet-requires : tie.Need-trace-packet-requires
 trace-packet-requires c κs = laid (c .before)
@@ -71,7 +61,7 @@ origin-spec =
     returns-2
     checked-requires
     enum-known-f
-    enum-known-gate
+    enum-known-layout
     trace-packet-requires
     tell-requires
     same-length

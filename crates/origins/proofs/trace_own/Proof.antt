@@ -6,7 +6,7 @@ use lib.ListN.{length}
 use Rattle.policy.specs.Fields.{countSize, recordSize}
 use Rattle.policy.specs.Values.{packetOf, ruleOf}
 use Rattle.origins.specs.Steps.{Checked}
-use Rattle.origins.proofs.Tracing.{own-here, own-traced}
+use Rattle.origins.proofs.Tracing.{own-whole, own-here, own-traced}
 use Rattle.origins.proofs.trace_own.Statement.{statement}
 use Rattle.origins.proofs.trace_own.Tie as tie
 
@@ -15,19 +15,21 @@ module _ (a : tie.After-first-box) where
   abbrev start : tie.Start
   start = a .before .before .before
 
-  abbrev checked : Checked (start .args .sheet .now) (start .args .l)
+  abbrev checked : Checked (start .args .sheet .now) (start .args .layout)
   checked = start .pre .0
 
-  inside : start .args .l .middle + countSize + recordSize * a .first-box .result + recordSize ≤ length (start .args .sheet .now)
+  inside : start .args .layout .order .middle + countSize + recordSize * a .first-box .result + recordSize ≤ length (start .args .sheet .now)
   inside =
       let h = own-here checked (packetOf (start .args .p)) _ (start .pre .1) (a .first-box .result) (a .first-box .ensures) in
-      omega (arith, checked .place .lists .ownEnd, checked .place .lists .inside)
+      omega (arith, checked .laid .lists .ownEnd, checked .laid .lists .inside)
 
 add-from : tie.Need-add-from
 add-from c = search needs
 
 first-box-requires : tie.Need-first-box-requires
-first-box-requires c κs = search needs
+first-box-requires c κs =
+    let x = c .before .before in
+    (omega arith, search needs, own-whole (x .pre .0) (packetOf (x .args .p)))
 
 mul-rule-at : tie.Need-mul-rule-at
 mul-rule-at c = let h = inside c in search needs
@@ -42,7 +44,7 @@ add-place : tie.Need-add-place
 add-place c =
     let a = c .before .before in
     let h = inside a in
-    let k = checked a .place .totalLimit in
+    let k = checked a .laid .totalLimit in
     search needs
 
 returns : tie.Need-returns

@@ -4,7 +4,7 @@ use native.Mathlib.Omega.{arith}
 use mathlib.Core.Path.{sym}
 use lib.Seq.{length-take-le}
 use Rattle.sheet.specs.Pairs.{pairBytes, pairSize}
-use Rattle.planner.proofs.Lengths.{call-length}
+use Rattle.promises.proofs.Lengths.{call-length}
 use Rattle.printing.proofs.print_plan.Statement.{statement}
 use Rattle.printing.proofs.print_plan.Tie as tie
 

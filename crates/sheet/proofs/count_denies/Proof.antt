@@ -2,11 +2,11 @@
 use borrow.Author.Needs.{needs}
 use native.Mathlib.Omega.{arith}
 use mathlib.Core.Logic.{⊎-elim}
-use mathlib.Core.Path.{_≡_, ap}
+use mathlib.Core.Path.{_≡_, ap, _∙_}
 use Prim.Native.Nat.{ℕ, _+_, _*_, _-_, _≤_}
 use lib.ListN.{length, drop}
 use Rattle.policy.specs.Fields.{countSize, recordSize}
-use Rattle.policy.specs.Rules.{denies}
+use Rattle.policy.specs.Rules.{Rule, isAllow, denies}
 use Rattle.wire.specs.Records.{rulesIn}
 use Rattle.sheet.specs.Steps.{rulesOf}
 use Rattle.sheet.proofs.Loops.{rules-left, no-rules, deny-counts, allow-skips, no-denies}
@@ -30,6 +30,9 @@ loop-holds c =
 rule-at-requires : tie.Need-rule-at-requires Inv-loop μ-loop
 rule-at-requires c κs = search needs
 
+is-allow-requires : tie.Need-is-allow-requires Inv-loop μ-loop
+is-allow-requires c κs = search needs
+
 add-count : tie.Need-add-count Inv-loop μ-loop
 add-count c = search needs
 
@@ -47,7 +50,7 @@ loop-again c =
     let h = c .before .before .before .before .loop in
     let a = c .before .before .before .before .before .before .args in
     let e = rules-left (a .n) (h .i) (h .at) (a .s .now) (omega arith) in
-    let x = c .before .before .rule-at .ensures in
+    let x = c .before .is-allow .ensures ∙ ap (λ (r : Rule). isAllow r) (c .before .before .rule-at .ensures) in
     ⊎-elim
     (λ w. let d = deny-counts e x (w .0 .taken) in (omega arith, omega arith, omega arith, omega arith))
     (λ w. let d = allow-skips e x (w .0 .left) in (omega arith, omega arith, omega arith, omega arith))
@@ -68,6 +71,7 @@ count-denies-spec =
     μ-loop
     loop-holds
     rule-at-requires
+    is-allow-requires
     add-count
     add-at
     add-i

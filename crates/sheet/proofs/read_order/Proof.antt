@@ -10,8 +10,8 @@ read-lists-requires c κs = search needs
 enum-known-f : tie.Need-enum-known-f
 enum-known-f c = search needs
 
-enum-known-gate : tie.Need-enum-known-gate
-enum-known-gate c = search needs
+enum-known-order : tie.Need-enum-known-order
+enum-known-order c = search needs
 
 returns : tie.Need-returns
 returns c = search (needs, order-over)
@@ -25,4 +25,4 @@ returns-3 c = search (needs, order-read)
 pub read-order-spec : {M : Type 1} → statement M
 read-order-spec =
     tie.close
-    (tie.spec read-lists-requires enum-known-f enum-known-gate returns returns-2 returns-3)
+    (tie.spec read-lists-requires enum-known-f enum-known-order returns returns-2 returns-3)

@@ -1,7 +1,7 @@
 -- `read_pair` answers at each of its tests what the definition gives there. Assumes nothing.
 use borrow.Author.Needs.{needs}
 use native.Mathlib.Omega.{arith}
-use Rattle.sheet.proofs.PairReader.{pair-refusal, third-inside, gate-inside, own-within, no-group-count, groups-differ, third-refusal, pair-over, pair-read}
+use Rattle.sheet.proofs.PairReader.{pair-refusal, third-inside, gate-inside, own-within, no-group-count, groups-differ, third-refusal, groups-inside, pair-over, pair-read}
 use Rattle.sheet.proofs.read_pair.Statement.{statement}
 use Rattle.sheet.proofs.read_pair.Tie as tie
 
@@ -11,8 +11,8 @@ read-lists-requires c κs = search needs
 enum-known-f : tie.Need-enum-known-f
 enum-known-f c = search needs
 
-enum-known-gate : tie.Need-enum-known-gate
-enum-known-gate c = search needs
+enum-known-order : tie.Need-enum-known-order
+enum-known-order c = search needs
 
 sub-left : tie.Need-sub-left
 sub-left c = search (needs, third-inside)
@@ -28,7 +28,7 @@ count-at-requires c κs = search needs
 
 returns-2 : tie.Need-returns-2
 returns-2 c =
-    groups-differ (c .before .before .before .before .before .before .before .read-lists .ensures) _ _ _ _ (c .before .before .before .before .before .gate .given .1) (c .before .before .before .if1 .left) _ (c .before .before .count-denies .ensures) _ (c .before .count-at .ensures .0) (λ q. omega arith)
+    groups-differ (c .before .before .before .before .before .before .before .read-lists .ensures) _ (c .before .before .before .before .before .order .given .1) (c .before .before .before .if1 .left) _ (c .before .before .count-denies .ensures) _ (c .before .count-at .ensures .0) (λ q. omega arith)
 
 add-from : tie.Need-add-from
 add-from c = search needs
@@ -58,7 +58,14 @@ returns-3 : tie.Need-returns-3
 returns-3 c =
     let p = c .before .before .before .before .before .before in
     let g = c .before .before .before .before .read-groups in
-    pair-over (p .before .before .before .before .before .before .before .read-lists .ensures) _ _ _ _ (p .before .before .before .before .before .gate .given .1) (p .before .before .before .if1 .left) _ (p .before .before .count-denies .ensures) _ (p .before .count-at .ensures .0) (omega arith) {t = g .result} (g .ensures) _ _ (c .before .before .boxes .given .1) (c .if3 .taken)
+    pair-over (p .before .before .before .before .before .before .before .read-lists .ensures) _ (p .before .before .before .before .before .order .given .1) (p .before .before .before .if1 .left) _ (p .before .before .count-denies .ensures) _ (p .before .count-at .ensures .0) (omega arith) {t = g .result} (g .ensures) _ _ (c .before .before .boxes .given .1) (c .if3 .taken)
+
+add-end : tie.Need-add-end
+add-end c =
+    let p = c .before .before .before .before .before .before in
+    let g = c .before .before .before .before .read-groups in
+    let h = groups-inside (p .before .before .before .before .before .before .before .read-lists .ensures) _ (p .before .before .before .before .before .order .given .1) (p .before .before .before .if1 .left) _ (p .before .before .count-denies .ensures) _ (p .before .count-at .ensures .0) (omega arith) {t = g .result} (g .ensures) _ _ (c .before .before .boxes .given .1) in
+    omega arith
 
 returns-4 : tie.Need-returns-4
 returns-4 c = search (needs, pair-refusal)
@@ -67,13 +74,13 @@ returns-5 : tie.Need-returns-5
 returns-5 c =
     let p = c .before .before .before .before .before in
     let g = c .before .before .before .read-groups in
-    third-refusal (p .before .before .before .before .before .before .before .read-lists .ensures) _ _ _ _ (p .before .before .before .before .before .gate .given .1) (p .before .before .before .if1 .left) _ (p .before .before .count-denies .ensures) _ (p .before .count-at .ensures .0) (omega arith) {t = g .result} (g .ensures) _ (c .before .f2 .given .1)
+    third-refusal (p .before .before .before .before .before .before .before .read-lists .ensures) _ (p .before .before .before .before .before .order .given .1) (p .before .before .before .if1 .left) _ (p .before .before .count-denies .ensures) _ (p .before .count-at .ensures .0) (omega arith) {t = g .result} (g .ensures) _ (c .before .f2 .given .1)
 
 returns-6 : tie.Need-returns-6
 returns-6 c =
     let p = c .before .before .before .before .before .before in
     let g = c .before .before .before .before .read-groups in
-    pair-read (p .before .before .before .before .before .before .before .read-lists .ensures) _ _ _ _ (p .before .before .before .before .before .gate .given .1) (p .before .before .before .if1 .left) _ (p .before .before .count-denies .ensures) _ (p .before .count-at .ensures .0) (omega arith) {t = g .result} (g .ensures) _ _ (c .before .before .boxes .given .1) (c .if3 .left)
+    pair-read (p .before .before .before .before .before .before .before .read-lists .ensures) _ (p .before .before .before .before .before .order .given .1) (p .before .before .before .if1 .left) _ (p .before .before .count-denies .ensures) _ (p .before .count-at .ensures .0) (omega arith) {t = g .result} (g .ensures) _ _ (c .before .before .boxes .given .1) (c .if3 .left)
 
 pub read-pair-spec : {M : Type 1} → statement M
 read-pair-spec =
@@ -81,7 +88,7 @@ read-pair-spec =
     (tie.spec
     read-lists-requires
     enum-known-f
-    enum-known-gate
+    enum-known-order
     sub-left
     returns
     count-denies-requires
@@ -96,6 +103,7 @@ read-pair-spec =
     enum-known-boxes
     sub-if3
     returns-3
+    add-end
     returns-4
     returns-5
     returns-6)

@@ -20,8 +20,8 @@ slice-aggregate-print-text c = search needs
 print-text-requires : tie.Need-print-text-requires
 print-text-requires c κs = search needs
 
-enum-known-boxes : tie.Need-enum-known-boxes
-enum-known-boxes c = search needs
+enum-known-layout : tie.Need-enum-known-layout
+enum-known-layout c = search needs
 
 print-number-requires : tie.Need-print-number-requires
 print-number-requires c κs = search needs
@@ -47,7 +47,7 @@ print-boxes-spec =
     enum-told
     slice-aggregate-print-text
     print-text-requires
-    enum-known-boxes
+    enum-known-layout
     print-number-requires
     slice-aggregate-print-text-2
     print-text-requires-2

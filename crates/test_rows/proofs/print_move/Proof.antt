@@ -4,7 +4,7 @@ use mathlib.Core.Path.{sym}
 use native.Mathlib.Omega.{arith}
 use lib.Seq.{length-take-le}
 use Rattle.sheet.specs.Pairs.{pairBytes, pairSize}
-use Rattle.planner.proofs.Lengths.{call-length}
+use Rattle.promises.proofs.Lengths.{call-length}
 use Rattle.test_rows.proofs.print_move.Statement.{statement}
 use Rattle.test_rows.proofs.print_move.Tie as tie
 

@@ -1,4 +1,4 @@
--- `copy_down` meets its contract: the loop's invariant says that the bytes before place i are copied. Assumes nothing.
+-- `copy_down` meets its contract: the loop's invariant says that the bytes before byte i are copied. Assumes nothing.
 use borrow.Author.Needs.{needs}
 use mathlib.Core.Path.{_≡_, refl, ap, _∙_}
 use Prim.Native.Nat.{ℕ, _+_, _-_, _<_, _≤_}

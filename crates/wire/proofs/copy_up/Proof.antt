@@ -1,4 +1,4 @@
--- `copy_up` meets its contract: the loop's invariant says that the bytes from place i on are copied. Assumes nothing.
+-- `copy_up` meets its contract: the loop's invariant says that the bytes from byte i on are copied. Assumes nothing.
 use borrow.Author.Needs.{needs}
 use mathlib.Core.Path.{_≡_, refl, ap, _∙_}
 use Prim.Native.Nat.{ℕ, suc, _+_, _-_, _<_, _≤_}

@@ -1,4 +1,0 @@
-pub mod Splices
-pub mod Changes
-pub mod Puts
-pub mod Touched

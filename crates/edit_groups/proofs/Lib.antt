@@ -1,0 +1,5 @@
+pub mod Touched
+pub mod Slots
+pub mod Joins
+pub mod Settled
+pub mod Gaps

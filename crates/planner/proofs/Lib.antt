@@ -1,9 +1,0 @@
-pub mod Good
-pub mod Edited
-pub mod Demands
-pub mod Theorems
-pub mod Calls
-pub mod Finished
-pub mod Planning
-pub mod Lengths
-pub mod Examples

@@ -1,6 +1,0 @@
-pub mod Slots
-pub mod Revised
-pub mod Parts
-pub mod Changed
-pub mod Gate
-pub mod Own
