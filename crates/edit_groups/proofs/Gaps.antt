@@ -8,7 +8,7 @@ use lib.Seq.{drop-drop, length-take-le}
 use Rattle.lists.specs.Lists.{Each}
 use Rattle.policy.specs.Fields.{countSize, limits}
 use Rattle.policy.specs.Ranges.{Region}
-use Rattle.policy.specs.Move.{Slot, alone, boxesOf, together, groupsOf}
+use Rattle.policy.specs.Move.{Slot, boxesOf, together, groupsOf}
 use Rattle.policy.proofs.Edits.{kept-boxes, kept-over, over-append, together-append}
 use Rattle.lists.proofs.Lists.{map-append}
 use Rattle.wire.specs.Numbers.{Byte}
@@ -26,9 +26,9 @@ use Rattle.draft.specs.declared.Drafted.the-variants.{Groups, TooManyPieces}
 use Rattle.edit_sheet.specs.Steps.{partOf, orderWith, groupsAt}
 use Rattle.edit_groups.specs.Steps.{keptSlots, slotsBehind, Gathering, Gathered, Regrouping}
 use Rattle.edit_groups.specs.declared.Around.{Around}
-use Rattle.edit_groups.proofs.Settled.{part-is, rules-good}
+use Rattle.edit_groups.proofs.Settled.{Keeps, part-is, rules-good}
 
-module _ {sheet list w : List ℕ} {t : PairLayout} {v : Around} (ready : Regrouping sheet t list v w) where
+module _ {start : Region → List Region} (keeps : Keeps start) {sheet list w : List ℕ} {t : PairLayout} {v : Around} (ready : Regrouping start sheet t list v w) where
   abbrev from : ℕ
   from = t .from
 
@@ -42,13 +42,13 @@ module _ {sheet list w : List ℕ} {t : PairLayout} {v : Around} (ready : Regrou
   groups = groupsAt t sheet
 
   pub groups-long : length groups ≡ used - from
-  groups-long = length-take-le (used - from) (drop from sheet) (rw length-drop (omega (arith, ready .start, ready .end)))
+  groups-long = length-take-le (used - from) (drop from sheet) (rw length-drop (omega (arith, ready .within, ready .end)))
 
   -- what stands in section C from a byte on
   pub part-behind : (k : ℕ) → from + k ≤ used → partOf (from + k) used sheet ≡ drop k groups
   part-behind k h =
       part-is (from + k) used sheet h (ready .end) ∙ sym (drop-drop k from (take used sheet))
-      ∙ ap (drop k) (sym (part-is from used sheet (ready .start) (ready .end)))
+      ∙ ap (drop k) (sym (part-is from used sheet (ready .within) (ready .end)))
 
   later-held : GroupsHeld groups (v .later)
   later-held = held-front (v .later) (v .groups) groups (ready .placed .later) (ready .held)
@@ -83,7 +83,7 @@ module _ {sheet list w : List ℕ} {t : PairLayout} {v : Around} (ready : Regrou
         pub gathering : v .to ≤ v .place + 1 → Gathering rules (v .place) (v .to) (boxes - gap .boxes) back w
         gathering one =
             let q = ready .placed in
-            let g = rules-good ready bytes (v .to) (q .inGate) in
+            let g = rules-good keeps ready bytes (v .to) (q .inGate) in
             let l : length back ≡ length groups - gap .next = ap length back-are ∙ length-drop (gap .next) groups in
             record {
               records = rw rules-are (g .0);
@@ -97,16 +97,16 @@ module _ {sheet list w : List ℕ} {t : PairLayout} {v : Around} (ready : Regrou
 
         -- what is joined is what stands behind the groups before the place
         abbrev anew : List Slot
-        anew = stretch alone (v .place) (v .to) (drop countSize list)
+        anew = stretch start (v .place) (v .to) (drop countSize list)
 
         abbrev later : List (List Region)
         later = drop (v .later) (groupsFrom (v .groups) groups)
 
-        joined-behind : (r : Drafted) (s : List ℕ) → Told limits anew (boxes - gap .boxes) (Begins s (groupsBytes (groupsOf anew) ++ back)) r → Behind (slotsBehind v groups (drop countSize list)) (boxCount (v .earlier) groups) r s
+        joined-behind : (r : Drafted) (s : List ℕ) → Told limits anew (boxes - gap .boxes) (Begins s (groupsBytes (groupsOf anew) ++ back)) r → Behind (slotsBehind start v groups (drop countSize list)) (boxCount (v .earlier) groups) r s
         unfolding Told
         joined-behind TooManyPieces s y = record { told = over-append (limits .pieces) anew (keptSlots (v .later) (v .groups) groups) ∙ rw y }
         joined-behind (Groups g b n) s y =
-            let f : groupsOf (slotsBehind v groups (drop countSize list)) ≡ groupsOf anew ++ later = map-append boxesOf anew _ ∙ ap (λ (x : List (List Region)). groupsOf anew ++ x) (kept-boxes later) in
+            let f : groupsOf (slotsBehind start v groups (drop countSize list)) ≡ groupsOf anew ++ later = map-append boxesOf anew _ ∙ ap (λ (x : List (List Region)). groupsOf anew ++ x) (kept-boxes later) in
             let l : length (together (groupsOf anew ++ later)) ≡ length (together (groupsOf anew)) + length (together later) = rw (together-append (groupsOf anew) later) (length-append (together (groupsOf anew)) (together later)) in
             let e = y .1 in
             record {
@@ -117,6 +117,6 @@ module _ {sheet list w : List ℕ} {t : PairLayout} {v : Around} (ready : Regrou
               );
             }
 
-        pub gap-behind : (q r : Drafted) → q ≡ r → {w′ : List ℕ} → Gathered rules (v .place) (v .to) (boxes - gap .boxes) back w q w′
-            → Behind (slotsBehind v groups (drop countSize list)) (boxCount (v .earlier) groups) r w′
+        pub gap-behind : (q r : Drafted) → q ≡ r → {w′ : List ℕ} → Gathered start rules (v .place) (v .to) (boxes - gap .boxes) back w q w′
+            → Behind (slotsBehind start v groups (drop countSize list)) (boxCount (v .earlier) groups) r w′
         gap-behind q r e {w′} x = joined-behind r w′ (rw (e, rules-are) at (x .joined))

@@ -11,7 +11,7 @@ use Rattle.policy.specs.Fields.{boxSize, countSize, recordSize, limits, workSiz
 use Rattle.policy.specs.Ranges.{Region}
 use Rattle.policy.specs.Rules.{isAllow}
 use Rattle.policy.specs.Cut.{group}
-use Rattle.policy.specs.Move.{Slot, alone, anew, boxesOf, together, overSlot, anyOver}
+use Rattle.policy.specs.Move.{Slot, anew, boxesOf, together, overSlot, anyOver}
 use Rattle.wire.specs.Numbers.{numberBytes}
 use Rattle.wire.specs.Records.{ruleIn, boxesBytes, eachBytes}
 use Rattle.wire.specs.Steps.{copiedUp}
@@ -28,11 +28,11 @@ use Rattle.edit_groups.specs.Steps.{NoneDenies, JoinReady, JoinedIn, Gat
 -- no rule; and one that allows or denies
 pub no-rule : (rules : List ℕ) (place to : ℕ) → to ≡ place → NoneDenies rules place to true
 unfolding NoneDenies
-no-rule rules place to e = rw e (stretch-none alone rules place)
+no-rule rules place to e = λ start. rw e (stretch-none start rules place)
 
 pub one-rule : (rules : List ℕ) (place to : ℕ) → to ≡ place + 1 → (b : Bool) → b ≡ isAllow (ruleIn (drop (recordSize * place) rules)) → NoneDenies rules place to b
 unfolding NoneDenies
-one-rule rules place to e true h = rw e (stretch-allow alone rules place (sym h))
+one-rule rules place to e true h = λ start. rw e (stretch-allow start rules place (sym h))
 one-rule rules place to e false h = (omega arith, sym h)
 
 pub denied-place : (rules : List ℕ) (place to : ℕ) → NoneDenies rules place to false → place < to
@@ -75,40 +75,40 @@ module _ {w back : List ℕ} {n : ℕ} (h : JoinReady w n back) where
         beyond = ap (drop workSize) (e₃ .1) ∙ drop-sets workSize w₂ (countSize + boxSize * n) back (omega arith) ∙ b₂;
       }
 
-module _ {rules : List ℕ} {place to boxes : ℕ} {back w : List ℕ} (ready : Gathering rules place to boxes back w) where
+module _ (start : Region → List Region) {rules : List ℕ} {place to boxes : ℕ} {back w : List ℕ} (ready : Gathering rules place to boxes back w) where
   back-fits : length back ≤ workSize
   back-fits = omega (arith, ready .size, ready .few)
 
   -- no group: the kept ones alone
-  pub gathered-kept : {end : ℕ} {w′ : List ℕ} → NoneDenies rules place to true → (end ≡ 0 + length back) × (w′ ≡ sets w 0 back) → Gathered rules place to boxes back w (Groups 0 boxes end) w′
+  pub gathered-kept : {end : ℕ} {w′ : List ℕ} → NoneDenies rules place to true → (end ≡ 0 + length back) × (w′ ≡ sets w 0 back) → Gathered start rules place to boxes back w (Groups 0 boxes end) w′
   unfolding NoneDenies Told anyOver together eachBytes
   gathered-kept {end} d e =
       let z : 0 + length back ≡ length back = omega arith in
       let p = e .1 ∙ sets-parts w 0 back (omega (arith, back-fits, ready .workRoom)) in
       record {
-        joined = rw d (refl, omega arith, λ t. (rw (e .1, length-sets w 0 back) (omega (arith, e .0, back-fits, ready .workRoom)), ap (take end) p ∙ take-at back (drop (0 + length back) w) end (omega (arith, e .0))));
-        count = rw d refl;
+        joined = rw (d start) (refl, omega arith, λ t. (rw (e .1, length-sets w 0 back) (omega (arith, e .0, back-fits, ready .workRoom)), ap (take end) p ∙ take-at back (drop (0 + length back) w) end (omega (arith, e .0))));
+        count = rw (d start) refl;
         beyond = ap (drop workSize) (e .1) ∙ drop-sets workSize w 0 back (omega (arith, back-fits));
       }
 
   module _ (d : NoneDenies rules place to false) where
     abbrev slot : Slot
-    slot = anew (startAt alone place rules) (allowsAt place rules)
+    slot = anew (startAt start place rules) (allowsAt place rules)
 
-    stretch-is : stretch alone place to rules ≡ slot ∷ []
+    stretch-is : stretch start place to rules ≡ slot ∷ []
     unfolding NoneDenies
-    stretch-is = let e : to ≡ place + 1 = omega (arith, d .0, ready .one) in rw e (stretch-deny alone rules place (d .1))
+    stretch-is = let e : to ≡ place + 1 = omega (arith, d .0, ready .one) in rw e (stretch-deny start rules place (d .1))
 
-    pub gathered-over : {w′ : List ℕ} → WorkedOut alone rules place w TooMany w′ → Gathered rules place to boxes back w TooManyPieces w′
+    pub gathered-over : {w′ : List ℕ} → WorkedOut start rules place w TooMany w′ → Gathered start rules place to boxes back w TooManyPieces w′
     unfolding Told anyOver overSlot
     gathered-over x = record { joined = rw (stretch-is, worked-over x); count = tt; beyond = x .beyond }
 
-    module _ {n : ℕ} {w₁ : List ℕ} (x : WorkedOut alone rules place w (Boxes n) w₁) where
+    module _ (short : length (startAt start place rules) ≤ limits .pieces) {n : ℕ} {w₁ : List ℕ} (x : WorkedOut start rules place w (Boxes n) w₁) where
       abbrev g : List Region
-      g = group (startAt alone place rules) (allowsAt place rules)
+      g = group (startAt start place rules) (allowsAt place rules)
 
       -- past the total nothing is joined
-      pub gathered-past : limits .total < boxes + n → Gathered rules place to boxes back w (Groups 1 (boxes + n) 0) w₁
+      pub gathered-past : limits .total < boxes + n → Gathered start rules place to boxes back w (Groups 1 (boxes + n) 0) w₁
       unfolding Told anyOver overSlot boxesOf together
       gathered-past h =
           let z = worked-boxes x in
@@ -119,9 +119,9 @@ module _ {rules : List ℕ} {place to boxes : ℕ} {back w : List ℕ} (ready : 
           }
 
       pub join-ready : boxes + n ≤ limits .total → length w₁ ≡ length w → JoinReady w₁ n back
-      join-ready h l = record { few = omega (arith, worked-few (omega arith) x); fits = omega (arith, ready .size); room = omega (arith, ready .workRoom) }
+      join-ready h l = record { few = omega (arith, worked-few short x); fits = omega (arith, ready .size); room = omega (arith, ready .workRoom) }
 
-      pub gathered-join : {end : ℕ} {w′ : List ℕ} → boxes + n ≤ limits .total → length w′ ≡ length w → JoinedIn w₁ n back end w′ → Gathered rules place to boxes back w (Groups 1 (boxes + n) end) w′
+      pub gathered-join : {end : ℕ} {w′ : List ℕ} → boxes + n ≤ limits .total → length w′ ≡ length w → JoinedIn w₁ n back end w′ → Gathered start rules place to boxes back w (Groups 1 (boxes + n) end) w′
       unfolding Told anyOver overSlot boxesOf together GroupStands groupBytes eachBytes
       gathered-join {end} h l j =
           let z = worked-boxes x in

@@ -63,13 +63,16 @@ part-is from used sheet h k =
 pub order-bytes : (list sheet : List ℕ) (t : PairLayout) → Each Byte list → Each Byte sheet → Each Byte (orderWith list t sheet)
 order-bytes list sheet t a b = each-append Byte list (partOf (t .order .middle) (t .order .end) sheet) a (bytes-take (t .order .end - t .order .middle) (drop (t .order .middle) sheet) (bytes-drop (t .order .middle) sheet b))
 
--- groups worked out anew from sound rules are proper
-stretch-proper : (i to : ℕ) (rules : List ℕ) → i ≤ to → rulesRefusal (rulesIn to rules) ≡ 0 → Each ProperGroup (map boxesOf (stretch alone i to rules))
-stretch-proper i to rules h f =
+-- Where groups start: those worked out anew from sound rules are proper.
+abbrev pub Keeps : (Region → List Region) → Type 0
+Keeps start = (i to : ℕ) (rules : List ℕ) → i ≤ to → rulesRefusal (rulesIn to rules) ≡ 0 → Each ProperGroup (map boxesOf (stretch start i to rules))
+
+pub alone-keeps : Keeps alone
+alone-keeps i to rules h f =
     let l : List Rule = rulesIn to rules in
     rw (rules-front i to rules h) at (rest-proper (record { gate = l; own = [] }) (take i l) (drop i l) (ap rulesRefusal (take-append-drop i l) ∙ f))
 
-module _ {sheet list w : List ℕ} {t : PairLayout} {v : Around} (ready : Regrouping sheet t list v w) (bytes : Each Byte (orderWith list t sheet)) where
+module _ {start : Region → List Region} (keeps : Keeps start) {sheet list w : List ℕ} {t : PairLayout} {v : Around} (ready : Regrouping start sheet t list v w) (bytes : Each Byte (orderWith list t sheet)) where
   abbrev middle : ℕ
   middle = t .order .middle
 
@@ -104,13 +107,13 @@ module _ {sheet list w : List ℕ} {t : PairLayout} {v : Around} (ready : Regrou
   groups = groupsAt t sheet
 
   abbrev anew : List Slot
-  anew = stretch alone (v .place) (v .to) (drop countSize list)
+  anew = stretch start (v .place) (v .to) (drop countSize list)
 
   abbrev behind : List Slot
-  behind = slotsBehind v groups (drop countSize list)
+  behind = slotsBehind start v groups (drop countSize list)
 
   abbrev l : List Slot
-  l = slotsAround v groups (drop countSize list)
+  l = slotsAround start v groups (drop countSize list)
 
   abbrev p : Pair
   p = record { order = o; groups = map boxesOf l }
@@ -123,7 +126,7 @@ module _ {sheet list w : List ℕ} {t : PairLayout} {v : Around} (ready : Regrou
   front-held = held-front (v .earlier) (v .groups) groups (ready .placed .earlier) (ready .held)
 
   groups-long : length groups ≡ used - from
-  groups-long = length-take-le (used - from) (drop from sheet) (rw length-drop (omega (arith, ready .start, ready .end)))
+  groups-long = length-take-le (used - from) (drop from sheet) (rw length-drop (omega (arith, ready .within, ready .end)))
 
   front-is : take (runSize (v .earlier) groups) (drop from sheet) ≡ groupsBytes (groupsFrom (v .earlier) groups)
   front-is = sym (take-take (runSize (v .earlier) groups) (used - from) (drop from sheet) (omega (arith, front-held .there, groups-long))) ∙ sym (front-held .bytes)
@@ -143,7 +146,7 @@ module _ {sheet list w : List ℕ} {t : PairLayout} {v : Around} (ready : Regrou
       let f = list-accepted (limits .gate) (rulesOf gate list) clean .0 in
       let s : rulesRefusal (rulesIn (v .to) (drop countSize list)) ≡ 0 =
       rw (rules-front (v .to) gate (drop countSize list) (q .inGate)) at (orElse-zero (rulesRefusal (take (v .to) (rulesOf gate list))) (rulesRefusal (drop (v .to) (rulesOf gate list))) (sym (rulesRefusal-append (take (v .to) (rulesOf gate list)) (drop (v .to) (rulesOf gate list))) ∙ rw (take-append-drop (v .to) (rulesOf gate list)) f) .0) in
-      stretch-proper (v .place) (v .to) (drop countSize list) (q .upTo) s
+      keeps (v .place) (v .to) (drop countSize list) (q .upTo) s
 
   behind-groups : groupsOf behind ≡ groupsOf anew ++ drop (v .later) (groupsFrom (v .groups) groups)
   behind-groups = map-append boxesOf anew _ ∙ ap (λ (x : List (List Region)). groupsOf anew ++ x) (kept-boxes (drop (v .later) (groupsFrom (v .groups) groups)))
@@ -181,7 +184,7 @@ module _ {sheet list w : List ℕ} {t : PairLayout} {v : Around} (ready : Regrou
       }
 
   pub draft-behind : (q r : Drafted) (rules draft draft′ w′ : List ℕ) (front : ℕ) → q ≡ r → rules ≡ drop countSize list → front ≡ boxCount (v .earlier) groups → AllAnew v → draftSize ≤ length draft → length draft′ ≡ length draft
-      → DraftedGroups alone rules (v .place) (v .to) draft 0 front w q draft′ w′ → Behind behind (boxCount (v .earlier) groups) r draft′
+      → DraftedGroups start rules (v .place) (v .to) draft 0 front w q draft′ w′ → Behind behind (boxCount (v .earlier) groups) r draft′
   draft-behind q r rules draft draft′ w′ front i e f k roomy j x =
       let m = groups-count (v .groups) groups in
       let n : length (groupsFrom (v .groups) groups) ≤ v .later = omega arith in
@@ -196,7 +199,7 @@ module _ {sheet list w : List ℕ} {t : PairLayout} {v : Around} (ready : Regrou
 
   module _ {kept : Kept} (before : kept .before ≡ v .earlier) (sized : kept .size ≡ runSize (v .earlier) groups) (back : kept .behind ≡ v .groups - v .later) {s : List ℕ} where
     settle-six : {w′ : List ℕ} → Behind behind (boxCount (v .earlier) groups) D.TooManyPieces s → drop workSize w′ ≡ drop workSize w
-        → Regrouped sheet t list v w (Refused TooManyPieces) sheet w′
+        → Regrouped start sheet t list v w (Refused TooManyPieces) sheet w′
     unfolding slotted room work Told
     settle-six {w′} x beyond =
         let over : anyOver (limits .pieces) l ≡ true = over-append (limits .pieces) (keptSlots 0 (v .earlier) groups) behind ∙ rw (kept-over (limits .pieces) (groupsFrom (v .earlier) groups)) (x .told) in
@@ -222,7 +225,7 @@ module _ {sheet list w : List ℕ} {t : PairLayout} {v : Around} (ready : Regrou
       own-are : length (o .own) ≡ own
       own-are = rulesIn-length own (drop countSize (drop (listSize gate) order))
 
-      settle-seven : {w′ : List ℕ} → limits .total < b + own → drop workSize w′ ≡ drop workSize w → Regrouped sheet t list v w (Refused TooManyBoxes) sheet w′
+      settle-seven : {w′ : List ℕ} → limits .total < b + own → drop workSize w′ ≡ drop workSize w → Regrouped start sheet t list v w (Refused TooManyBoxes) sheet w′
       unfolding slotted room work
       settle-seven {w′} h beyond =
           let u : limits .total < length (together (p .groups)) + length (o .own) = omega (arith, boxes-are, own-are) in
@@ -270,15 +273,15 @@ module _ {sheet list w : List ℕ} {t : PairLayout} {v : Around} (ready : Regrou
         settle-put : (end ≤ length s) × GatePut sheet t list kept g (take end s)
         settle-put =
             let q = pair-short limits p (omega arith) (omega arith) good (omega arith) (omega arith) (omega arith) in
-            let fl : length (take (kept .size) (drop from sheet)) ≡ kept .size = length-take-le (kept .size) (drop from sheet) (rw length-drop (omega (arith, sized, front-held .there, groups-long, ready .end, ready .start))) in
-            let b : length (partOf middle third sheet) ≡ third - middle = length-take-le (third - middle) (drop middle sheet) (rw length-drop (omega (arith, ready .upTo, ready .begin, ready .start, ready .end))) in
+            let fl : length (take (kept .size) (drop from sheet)) ≡ kept .size = length-take-le (kept .size) (drop from sheet) (rw length-drop (omega (arith, sized, front-held .there, groups-long, ready .end, ready .within))) in
+            let b : length (partOf middle third sheet) ≡ third - middle = length-take-le (third - middle) (drop middle sheet) (rw length-drop (omega (arith, ready .upTo, ready .begin, ready .within, ready .end))) in
             let j : length (sheetOf order n section) ≡ length list + (third - middle) + countSize + kept .size + length (take end s) = rw (length-append, length-append, length-append, numberBytes-length, length-append, fl, b) (omega arith) in (
               made .0,
               record {
                 apart = ready .apart;
                 upTo = ready .upTo;
                 begin = ready .begin;
-                old = omega (arith, sized, front-held .there, groups-long, ready .end, ready .start);
+                old = omega (arith, sized, front-held .there, groups-long, ready .end, ready .within);
                 laid = rw (rest-is, made .1) (groups-laid (groupsOf behind) behind-proper (omega (arith, behind-few)));
                 few = omega (arith, number, length-map l boxesOf, short);
                 fits = omega (arith, ap length sheet-is);
@@ -288,7 +291,7 @@ module _ {sheet list w : List ℕ} {t : PairLayout} {v : Around} (ready : Regrou
 
         settle-accepted : {w′ : List ℕ} (r : ℕ) (sheet′ : List ℕ) → drop workSize w′ ≡ drop workSize w
             → r ≡ length (withGate sheet t list (kept .size) n (take end s)) → sheet′ ≡ filled pairSize sheet (withGate sheet t list (kept .size) n (take end s))
-            → Regrouped sheet t list v w (Length r) sheet′ w′
+            → Regrouped start sheet t list v w (Length r) sheet′ w′
         unfolding slotted lengthOf written
         settle-accepted r sheet′ beyond e f = record {
           answer = rw (none, e, sheet-is);
@@ -303,11 +306,11 @@ module _ {sheet list w : List ℕ} {t : PairLayout} {v : Around} (ready : Regrou
     settle-ready D.TooManyPieces x many = tt
 
     pub settle-done : (r : Drafted) → Behind behind (boxCount (v .earlier) groups) r s → Counted anew r → {q : Answer} {sheet′ w′ : List ℕ} → drop workSize w′ ≡ drop workSize w
-        → Settled sheet t list kept r s q sheet′ → Regrouped sheet t list v w q sheet′ w′
+        → Settled sheet t list kept r s q sheet′ → Regrouped start sheet t list v w q sheet′ w′
     unfolding Settled
     settle-done (D.Groups g b end) x many {q} {sheet′} {w′} beyond y = go (ltb (limits .total) (b + own)) refl
       where
-        go : (over : Bool) → ltb (limits .total) (b + own) ≡ over → Regrouped sheet t list v w q sheet′ w′
+        go : (over : Bool) → ltb (limits .total) (b + own) ≡ over → Regrouped start sheet t list v w q sheet′ w′
         go true e = let z = y .0 (ltb-true (limits .total) (b + own) e) in rw (z .0, z .1) (settle-seven x (ltb-true (limits .total) (b + own) e) beyond)
         go false e = let z = y .1 (ltb-false (limits .total) (b + own) e) in rw (z .0) (settle-accepted x many (ltb-false (limits .total) (b + own) e) _ sheet′ beyond refl (z .1))
     settle-done D.TooManyPieces x many beyond y = rw (y .0, y .1) (settle-six x beyond)

@@ -10,7 +10,7 @@ use Rattle.lists.proofs.Lists.{append-none, three-parts}
 use Rattle.policy.specs.Fields.{limits}
 use Rattle.policy.specs.Ranges.{Region}
 use Rattle.policy.specs.Rules.{Rule, denies, allowsIn, anyAllow}
-use Rattle.policy.specs.Move.{kept, slots, alone}
+use Rattle.policy.specs.Move.{kept, slots}
 use Rattle.policy.specs.Edit.{Kind, out, put, front, gone, back, changed, around}
 use Rattle.policy.proofs.Edits.{slots-append, slots-length}
 use Rattle.policy.proofs.Kept.{denies-append}
@@ -45,7 +45,7 @@ around-length f x m n y gs h =
     go true e = slots-length f (allowsIn x ++ allowsIn n) y
     go false e = length-map (drop (denies x + denies m) gs) kept ∙ rw length-drop (omega arith)
 
-module _ (i : ℕ) (c : Change) (s : List ℕ) (l : List Rule) (there : i + out (kindOf c s) ≤ length l) where
+module _ (start : Region → List Region) (i : ℕ) (c : Change) (s : List ℕ) (l : List Rule) (there : i + out (kindOf c s) ≤ length l) where
   abbrev k : Kind
   k = kindOf c s
 
@@ -90,10 +90,10 @@ module _ (i : ℕ) (c : Change) (s : List ℕ) (l : List Rule) (there : i + out 
     kept-before : keptSlots 0 (denies (take i l)) groups ≡ map kept (take (denies (front i l)) gs)
     kept-before = let e = all-is in ap (λ (x : List (List Region)). map kept x) (sym (groups-front (denies (front i l)) (denies l) groups (omega arith)))
 
-    stretch-all : stretch alone i (length new) rules ≡ slots alone (allowsIn (front i l)) (put k) ++ slots alone (allowsIn (front i l) ++ allowsIn (put k)) (back i k l)
-    stretch-all = rw (rules-before, ← count-is, are, behind-new) (slots-append alone (allowsIn (front i l)) (put k) (back i k l))
+    stretch-all : stretch start i (length new) rules ≡ slots start (allowsIn (front i l)) (put k) ++ slots start (allowsIn (front i l) ++ allowsIn (put k)) (back i k l)
+    stretch-all = rw (rules-before, ← count-is, are, behind-new) (slots-append start (allowsIn (front i l)) (put k) (back i k l))
 
-    stretch-put : stretch alone i (i + putBy c) rules ≡ slots alone (allowsIn (front i l)) (put k)
+    stretch-put : stretch start i (i + putBy c) rules ≡ slots start (allowsIn (front i l)) (put k)
     stretch-put =
         let e = count-is in
         let f = new-length in
@@ -105,16 +105,16 @@ module _ (i : ℕ) (c : Change) (s : List ℕ) (l : List Rule) (there : i + out 
 
     abbrev Same : Around → Bool → Type 0
     Same v t =
-        slotsAround v groups rules
-        ≡ map kept (take (denies (front i l)) gs) ++ (slots alone (allowsIn (front i l)) (put k)
-        ++ cond t (slots alone (allowsIn (front i l) ++ allowsIn (put k)) (back i k l)) (map kept (drop (denies (front i l) + denies (gone i k l)) gs)))
+        slotsAround start v groups rules
+        ≡ map kept (take (denies (front i l)) gs) ++ (slots start (allowsIn (front i l)) (put k)
+        ++ cond t (slots start (allowsIn (front i l) ++ allowsIn (put k)) (back i k l)) (map kept (drop (denies (front i l) + denies (gone i k l)) gs)))
 
     same : (t : Bool) → Same
         (record { earlier = denies (take i l); later = cond t (denies l) (denies (take (i + takenBy c) l)); groups = denies l; place = i; to = cond t (length new) (i + putBy c); count = length new }) t
-    same true = rw (kept-before, none-behind, stretch-all, append-none (slots alone (allowsIn (front i l)) (put k) ++ slots alone (allowsIn (front i l) ++ allowsIn (put k)) (back i k l)))
+    same true = rw (kept-before, none-behind, stretch-all, append-none (slots start (allowsIn (front i l)) (put k) ++ slots start (allowsIn (front i l) ++ allowsIn (put k)) (back i k l)))
     same false = rw (kept-before, stretch-put, later-is)
 
-    pub gate-slots : slotsAround (aroundOf i c l new) groups rules ≡ around alone (front i l) (gone i k l) (put k) (back i k l) gs
+    pub gate-slots : slotsAround start (aroundOf i c l new) groups rules ≡ around start (front i l) (gone i k l) (put k) (back i k l) gs
     unfolding aroundOf around
     gate-slots = rw touched-is (same (anyAllow (gone i k l) || anyAllow (put k)))
 

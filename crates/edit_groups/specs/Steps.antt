@@ -7,9 +7,10 @@ use Prim.Native.Nat.{ℕ, _+_, _*_, _≤_, _<_}
 use lib.ListN.{length, take, drop}
 use Rattle.lists.specs.Lists.{every}
 use Rattle.policy.specs.Fields.{boxSize, countSize, recordSize, limits, workSize}
+use Rattle.policy.specs.Ranges.{Region}
 use Rattle.policy.specs.Rules.{Rule, isAllow, sound, denies, anyAllow}
 use Rattle.policy.specs.Refusals.{Outcome, unless}
-use Rattle.policy.specs.Move.{Slot, kept, alone, groupsOf, room, Order, Pair}
+use Rattle.policy.specs.Move.{Slot, kept, groupsOf, room, Order, Pair}
 use Rattle.policy.specs.declared.Answer.{Answer}
 use Rattle.policy.specs.declared.Answer.the-variants.{Length, Refused}
 use Rattle.policy.specs.declared.Refusal.the-variants as R
@@ -61,12 +62,12 @@ abbrev pub keptSlots : ℕ → ℕ → List ℕ → List Slot
 keptSlots from to s = map kept (drop from (groupsFrom to s))
 
 -- The groups of an edited A from its place on: worked out anew from the rules of the new A, and kept behind these.
-abbrev pub slotsBehind : Around → List ℕ → List ℕ → List Slot
-slotsBehind v groups rules = stretch alone (v .place) (v .to) rules ++ keptSlots (v .later) (v .groups) groups
+abbrev pub slotsBehind : (Region → List Region) → Around → List ℕ → List ℕ → List Slot
+slotsBehind start v groups rules = stretch start (v .place) (v .to) rules ++ keptSlots (v .later) (v .groups) groups
 
 -- All of them, by where they come from.
-abbrev pub slotsAround : Around → List ℕ → List ℕ → List Slot
-slotsAround v groups rules = keptSlots 0 (v .earlier) groups ++ slotsBehind v groups rules
+abbrev pub slotsAround : (Region → List Region) → Around → List ℕ → List ℕ → List Slot
+slotsAround start v groups rules = keptSlots 0 (v .earlier) groups ++ slotsBehind start v groups rules
 
 -- The numbers are in order, and no more groups come of them than the gate may have rules.
 pub record Placed (v : Around) : Type 0 where
@@ -78,9 +79,9 @@ pub record Placed (v : Around) : Type 0 where
   pub later : v .later ≤ v .groups
   pub fits : v .to + v .groups ≤ limits .gate + v .later
 
--- Whether no rule from the place up to `to` denies, where there is one at most: then no group comes of it.
+-- Whether no rule from the place up to `to` denies, where there is one at most: then no group comes of it, wherever groups start.
 unfoldable pub NoneDenies : List ℕ → ℕ → ℕ → Bool → Type 0
-NoneDenies rules place to true = stretch alone place to rules ≡ []
+NoneDenies rules place to true = (start : Region → List Region) → stretch start place to rules ≡ []
 NoneDenies rules place to false = (place < to) × (isAllow (ruleIn (drop (recordSize * place) rules)) ≡ false)
 
 -- A group's n boxes at the front of the work buffer, and room for its count and for the bytes behind it.
@@ -107,9 +108,9 @@ pub record Gathering (rules : List ℕ) (place to boxes : ℕ) (back work : List
   pub workRoom : workSize ≤ length work
 
 -- What it answers and leaves: while the boxes are within the total, the bytes of the group, and behind them those of the kept ones.
-pub record Gathered (rules : List ℕ) (place to boxes : ℕ) (back work : List ℕ) (r : Drafted) (work′ : List ℕ) : Type 0 where
-  pub joined : Told limits (stretch alone place to rules) boxes (Begins work′ (groupsBytes (groupsOf (stretch alone place to rules)) ++ back)) r
-  pub count : Counted (stretch alone place to rules) r
+pub record Gathered (start : Region → List Region) (rules : List ℕ) (place to boxes : ℕ) (back work : List ℕ) (r : Drafted) (work′ : List ℕ) : Type 0 where
+  pub joined : Told limits (stretch start place to rules) boxes (Begins work′ (groupsBytes (groupsOf (stretch start place to rules)) ++ back)) r
+  pub count : Counted (stretch start place to rules) r
   pub beyond : drop workSize work′ ≡ drop workSize work
 
 -- What the last step asks for: where there is room for so many boxes, the groups made are there, and the sheet can be written.
@@ -132,21 +133,22 @@ AllAnew v = v .later ≡ v .groups
 abbrev pub layoutOf : ℕ → ℕ → OrderLayout
 layoutOf gate own = record { gate = gate; own = own; middle = listSize gate; end = listSize gate + listSize own }
 
--- What regrouping asks for: the new order sheet reads well and its A is in the list, the old groups and nothing else are section C, no
--- group is kept behind the place where more than one rule is to be worked out, and what stands is one record at most from where it goes.
-pub record Regrouping (sheet : List ℕ) (l : PairLayout) (list : List ℕ) (v : Around) (work : List ℕ) : Type 0 where
+-- What regrouping asks for: the new order sheet reads well and its A is in the list, the old groups and nothing else are section C,
+-- no group is kept behind the place where more than one rule is to be worked out, and what stands is one record at most from where
+-- it goes.
+pub record Regrouping (start : Region → List Region) (sheet : List ℕ) (l : PairLayout) (list : List ℕ) (v : Around) (work : List ℕ) : Type 0 where
   pub reads : OrderRead (orderWith list l sheet) (Parts (layoutOf (v .count) (l .order .own)))
   pub long : listSize (v .count) ≤ length list
   pub front : rulesOf (v .count) (orderWith list l sheet) ≡ rulesOf (v .count) list
   pub held : GroupsHeld (groupsAt l sheet) (v .groups)
   pub placed : Placed v
-  pub counted : length (slotsAround v (groupsAt l sheet) (drop countSize list)) ≡ denies (rulesOf (v .count) list)
+  pub counted : length (slotsAround start v (groupsAt l sheet) (drop countSize list)) ≡ denies (rulesOf (v .count) list)
   pub all : l .boxes ≡ boxCount (v .groups) (groupsAt l sheet)
   pub exact : length (groupsAt l sheet) ≡ runSize (v .groups) (groupsAt l sheet)
   pub wide : v .place + 1 < v .to → AllAnew v
   pub upTo : l .order .middle ≤ l .order .end
   pub begin : l .from ≡ l .order .end + countSize
-  pub start : l .from ≤ l .end
+  pub within : l .from ≤ l .end
   pub end : l .end ≤ length sheet
   pub apart : OneRecord (l .order .middle) (length list)
   pub sheetRoom : pairSize ≤ length sheet
@@ -157,8 +159,8 @@ unfoldable pub slotted : Order → List Slot → Outcome Pair
 slotted o l = unless (room limits o l) (record { order = o; groups = groupsOf l })
 
 -- What it answers and leaves: the pair of the new lists and the groups around the place.
-abbrev pub Regrouped : List ℕ → PairLayout → List ℕ → Around → List ℕ → Answer → List ℕ → List ℕ → Type 0
-Regrouped sheet l list v w r sheet′ w′ =
+abbrev pub Regrouped : (Region → List Region) → List ℕ → PairLayout → List ℕ → Around → List ℕ → Answer → List ℕ → List ℕ → Type 0
+Regrouped start sheet l list v w r sheet′ w′ =
     Writes pairBytes pairSize
-    (slotted (orderAt (layoutOf (v .count) (l .order .own)) (orderWith list l sheet)) (slotsAround v (groupsAt l sheet) (drop countSize list)))
+    (slotted (orderAt (layoutOf (v .count) (l .order .own)) (orderWith list l sheet)) (slotsAround start v (groupsAt l sheet) (drop countSize list)))
     sheet w r sheet′ w′

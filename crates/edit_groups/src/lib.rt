@@ -1,5 +1,6 @@
-// The groups of an edited A: which of them are kept and which are worked out anew, and the last step of the edit. With one rule at most
-// to work out, its group and those kept behind it are joined in the work buffer; with more of them, they are drafted as in a move.
+// The groups of an edited A: which of them are kept and which are worked out anew, and the last step of the edit. With one rule at
+// most to work out, its group and those kept behind it are joined in the work buffer; with more of them, they are drafted as in a
+// move.
 use draft::DRAFT_BYTES;
 use draft::Drafted;
 use draft::draft_groups;
@@ -20,13 +21,14 @@ ghost use Prim.Native.Nat.{_+_, _*_, _≤_};
 ghost use lib.ListN.{length, drop};
 ghost use Rattle.policy.specs.Fields.{recordSize};
 ghost use Rattle.policy.specs.Rules.{anyAllow};
+ghost use Rattle.policy.specs.Move.{alone};
 ghost use Rattle.wire.specs.Lists.{listSize};
 ghost use Rattle.sheet.specs.Steps.{rulesOf};
 ghost use Rattle.draft.specs.Steps.{draftSize};
 ghost use Rattle.edit_groups.specs.Steps.{aroundOf, AroundReady, NoneDenies, JoinReady, JoinedIn, Gathering, Gathered, Settling, Settled, Regrouping, Regrouped, AllAnew};
 
-// Where the groups of an edited A, which has `count` rules, come from: those before `earlier` and those from `later` up to `groups` are kept, and
-// those of the rules from `place` up to `to` are worked out anew between them.
+// Where the groups of an edited A, which has `count` rules, come from: those before `earlier` and those from `later` up to `groups`
+// are kept, and those of the rules from `place` up to `to` are worked out anew between them.
 pub struct Around {
     pub earlier: usize,
     pub later: usize,
@@ -47,8 +49,8 @@ fn any_allow(list: &[u8], place: usize, n: usize) -> bool
     wire::rule_at(list, COUNT_BYTES + RECORD_BYTES * place).is_allow()
 }
 
-// Where the groups of the new A, of so many rules, come from: those behind the place too are worked out anew where an allow is taken out
-// or put in.
+// Where the groups of the new A, of so many rules, come from: those behind the place too are worked out anew where an allow is taken
+// out or put in.
 pub fn find_around(
     pair: &[u8],
     old: PairLayout,
@@ -122,7 +124,7 @@ fn gather(
     work: &mut [u8],
 ) -> Drafted
     requires { ⌜ Gathering (now rules) place to boxes (now back) (now work) ⌝ }
-    ensures { λ r. ⌜ Gathered (now (rules .entry)) place to boxes (now (back .entry)) (now (work .entry)) r (now (work .exit)) ⌝ }
+    ensures { λ r. ⌜ Gathered alone (now (rules .entry)) place to boxes (now (back .entry)) (now (work .entry)) r (now (work .exit)) ⌝ }
 {
     if none_denies(rules, place, to) {
         let end = wire::put_bytes(work, 0, back);
@@ -185,8 +187,8 @@ fn regroup_one(
     around: Around,
     work: &mut [u8],
 ) -> Answer
-    requires { ⌜ Regrouping (now sheet) old (now list) around (now work) × (around .to ≤ around .place + 1) ⌝ }
-    ensures { λ r. ⌜ Regrouped (now (sheet .entry)) old (now (list .entry)) around (now (work .entry)) r (now (sheet .exit)) (now (work .exit)) ⌝ }
+    requires { ⌜ Regrouping alone (now sheet) old (now list) around (now work) × (around .to ≤ around .place + 1) ⌝ }
+    ensures { λ r. ⌜ Regrouped alone (now (sheet .entry)) old (now (list .entry)) around (now (work .entry)) r (now (sheet .exit)) (now (work .exit)) ⌝ }
 {
     let from = old.from;
     let used = old.end;
@@ -219,8 +221,8 @@ fn regroup_all(
     draft: &mut [u8],
     work: &mut [u8],
 ) -> Answer
-    requires { ⌜ Regrouping (now sheet) old (now list) around (now work) × AllAnew around × (draftSize ≤ length (now draft)) ⌝ }
-    ensures { λ r. ⌜ Regrouped (now (sheet .entry)) old (now (list .entry)) around (now (work .entry)) r (now (sheet .exit)) (now (work .exit)) ⌝ }
+    requires { ⌜ Regrouping alone (now sheet) old (now list) around (now work) × AllAnew around × (draftSize ≤ length (now draft)) ⌝ }
+    ensures { λ r. ⌜ Regrouped alone (now (sheet .entry)) old (now (list .entry)) around (now (work .entry)) r (now (sheet .exit)) (now (work .exit)) ⌝ }
 {
     let from = old.from;
     let used = old.end;
@@ -241,8 +243,8 @@ fn regroup_all(
     settle(sheet, old, list, stay, drafted, draft)
 }
 
-// The groups of the new A made, and its pair sheet written if there is room for them. A draft is a local buffer, so that a copy from it
-// and to it cannot meet anything lent.
+// The groups of the new A made, and its pair sheet written if there is room for them. A draft is a local buffer, so that a copy from
+// it and to it cannot meet anything lent.
 pub fn regroup(
     sheet: &mut [u8],
     old: PairLayout,
@@ -250,8 +252,8 @@ pub fn regroup(
     around: Around,
     work: &mut [u8],
 ) -> Answer
-    requires { ⌜ Regrouping (now sheet) old (now list) around (now work) ⌝ }
-    ensures { λ r. ⌜ Regrouped (now (sheet .entry)) old (now (list .entry)) around (now (work .entry)) r (now (sheet .exit)) (now (work .exit)) ⌝ }
+    requires { ⌜ Regrouping alone (now sheet) old (now list) around (now work) ⌝ }
+    ensures { λ r. ⌜ Regrouped alone (now (sheet .entry)) old (now (list .entry)) around (now (work .entry)) r (now (sheet .exit)) (now (work .exit)) ⌝ }
 {
     if around.to <= around.place + 1 {
         return regroup_one(sheet, old, list, around, work);

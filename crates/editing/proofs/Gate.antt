@@ -186,13 +186,13 @@ module _ (sheet : List ℕ) {l : PairLayout} (a : PairAccepted (take (l .end) sh
         groups-count-is = sym (a .laid .groupsAre)
 
         -- where the groups come from, and that they are those of the edit
-        slots-are : slotsAround v (drop from s) (drop countSize t) ≡ newSlots (editOf q) p
+        slots-are : slotsAround alone v (drop from s) (drop countSize t) ≡ newSlots (editOf q) p
         slots-are =
-            rw (renewed .rules) (gate-slots place change new (o .gate) there (drop from s) (drop countSize t) n′ (renewed .rules))
+            rw (renewed .rules) (gate-slots alone place change new (o .gate) there (drop from s) (drop countSize t) n′ (renewed .rules))
             ∙ ap (λ (j : ℕ). around alone (front place (o .gate)) (gone place k (o .gate)) (put k) (back place k (o .gate)) (groupsFrom j (drop from s))) (sym (a .laid .groupsAre))
 
         slots-placed : Placed v
-        slots-placed = rw (renewed .rules) (gate-placed place change new (o .gate) there (drop from s) (drop countSize t) n′ (renewed .rules) (renewed .limit))
+        slots-placed = rw (renewed .rules) (gate-placed alone place change new (o .gate) there (drop from s) (drop countSize t) n′ (renewed .rules) (renewed .limit))
 
         slots-counted : length (newSlots (editOf q) p) ≡ denies (rulesOf n′ t)
         slots-counted =
@@ -202,19 +202,19 @@ module _ (sheet : List ℕ) {l : PairLayout} (a : PairAccepted (take (l .end) sh
 
         -- with more than one rule to work out, none is kept behind the place
         slots-wide : v .place + 1 < v .to → AllAnew v
-        slots-wide = rw (renewed .rules) (gate-wide place change new (o .gate) there (drop from s) (drop countSize t) n′ (renewed .rules))
+        slots-wide = rw (renewed .rules) (gate-wide alone place change new (o .gate) there (drop from s) (drop countSize t) n′ (renewed .rules))
 
-        edited-is : editedOf limits s q ≡ slotted (orderAt (layoutOf n′ m) order) (slotsAround v (drop from s) (drop countSize t))
+        edited-is : editedOf limits s q ≡ slotted (orderAt (layoutOf n′ m) order) (slotsAround alone v (drop from s) (drop countSize t))
         edited-is =
             revised.revised-slotted a r new refl n (gates .gateCount) (c .done .found) (c .done .whole) (a .good .gate) (renewed .clean)
             ∙ rw (lists-new, slots-are)
 
         module _ (v′ : Around) (same : v′ ≡ v) where
-          pub gate-regrouping : {w : List ℕ} → pairSize ≤ length sheet → workSize ≤ length w → Regrouping sheet l t v′ w
+          pub gate-regrouping : {w : List ℕ} → pairSize ≤ length sheet → workSize ≤ length w → Regrouping alone sheet l t v′ w
           gate-regrouping {w} h j =
               let g = a .laid .lists .gateEnd in
               let d = parts-there sheet a inside in
-              subst (λ (x : Around). Regrouping sheet l t x w) (sym same)
+              subst (λ (x : Around). Regrouping alone sheet l t x w) (sym same)
               (record {
                 reads = rw rules-are order-read;
                 long = rw rules-are (omega (arith, renewed .size));
@@ -227,15 +227,15 @@ module _ (sheet : List ℕ) {l : PairLayout} (a : PairAccepted (take (l .end) sh
                 wide = slots-wide;
                 upTo = d .0;
                 begin = d .2;
-                start = d .3;
+                within = d .3;
                 end = inside;
                 apart = record { up = λ i. omega (arith, renewed .size, renewed .more, i); down = λ i. omega (arith, renewed .size, renewed .less, i) };
                 sheetRoom = h;
                 workRoom = j;
               })
 
-          pub gate-done : {w w′ sheet′ : List ℕ} {x : Answer} → Regrouped sheet l t v′ w x sheet′ w′ → Revised sheet (l .end) q w x sheet′ w′
+          pub gate-done : {w w′ sheet′ : List ℕ} {x : Answer} → Regrouped alone sheet l t v′ w x sheet′ w′ → Revised sheet (l .end) q w x sheet′ w′
           gate-done y =
-              let e : slotted (orderAt (layoutOf (v′ .count) m) order) (slotsAround v′ (groupsAt l sheet) (drop countSize t)) ≡ editedOf limits s q =
+              let e : slotted (orderAt (layoutOf (v′ .count) m) order) (slotsAround alone v′ (groupsAt l sheet) (drop countSize t)) ≡ editedOf limits s q =
               rw (same, rules-are, groups-are) (sym edited-is) in
               rw e at y

@@ -56,8 +56,8 @@ pub enum OrderParts {
     Refused(Refusal),
 }
 
-// Where the parts of a pair sheet lie: those of its order sheet, which is its front; how many groups and boxes section C has, and where
-// the groups begin, behind their count, and end.
+// Where the parts of a pair sheet lie: those of its order sheet, which is its front; how many groups and boxes section C has, and
+// where the groups begin, behind their count, and end.
 pub struct PairLayout {
     pub order: OrderLayout,
     pub groups: usize,

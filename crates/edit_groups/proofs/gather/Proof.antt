@@ -3,6 +3,7 @@ use borrow.Author.Needs.{needs}
 use native.Mathlib.Omega.{arith}
 use mathlib.Core.Path.{_≡_}
 use mathlib.Core.Bool.{false}
+use Rattle.policy.specs.Move.{alone}
 use Rattle.draft.proofs.Turns.{worked-few}
 use Rattle.draft.proofs.Drafts.{rules-sound-front}
 use Rattle.edit_groups.specs.Steps.{NoneDenies}
@@ -24,7 +25,7 @@ same-length : tie.Need-same-length
 same-length c = search needs
 
 returns : tie.Need-returns
-returns c = gathered-kept (c .before .before .before .before .before .before .before .before .before .pre) (rw (c .before .before .before .before .if1 .taken) at (c .before .before .before .before .before .none-denies .ensures)) (c .before .before .put-bytes .ensures)
+returns c = gathered-kept alone (c .before .before .before .before .before .before .before .before .before .pre) (rw (c .before .before .before .before .if1 .taken) at (c .before .before .before .before .before .none-denies .ensures)) (c .before .before .put-bytes .ensures)
 
 work-out-requires : tie.Need-work-out-requires
 work-out-requires c κs =
@@ -49,18 +50,18 @@ same-length-2 c = search needs
 returns-2 : tie.Need-returns-2
 returns-2 c =
     let x = rw (c .before .before .n .given .1) at (c .before .before .before .before .before .before .work-out .ensures) in
-    gathered-past (c .before .before .before .before .before .before .before .before .before .before .before .before .before .pre) (deny (c .before .before .before .before .before .before .before .before .before) (c .before .before .before .before .before .before .before .before .if1 .left)) x (c .if2 .taken)
+    gathered-past alone (c .before .before .before .before .before .before .before .before .before .before .before .before .before .pre) (deny (c .before .before .before .before .before .before .before .before .before) (c .before .before .before .before .before .before .before .before .if1 .left)) (omega arith) x (c .if2 .taken)
 
 join-groups-requires : tie.Need-join-groups-requires
 join-groups-requires c κs =
     let x = rw (c .before .before .before .n .given .1) at (c .before .before .before .before .before .before .before .work-out .ensures) in
-    join-ready (c .before .before .before .before .before .before .before .before .before .before .before .before .before .before .pre) (deny (c .before .before .before .before .before .before .before .before .before .before) (c .before .before .before .before .before .before .before .before .before .if1 .left)) x (c .before .if2 .left) (search needs)
+    join-ready alone (c .before .before .before .before .before .before .before .before .before .before .before .before .before .before .pre) (deny (c .before .before .before .before .before .before .before .before .before .before) (c .before .before .before .before .before .before .before .before .before .if1 .left)) (omega arith) x (c .before .if2 .left) (search needs)
 
 same-length-3 : tie.Need-same-length-3
 same-length-3 c = search needs
 
 returns-3 : tie.Need-returns-3
-returns-3 c = gathered-over (c .before .before .before .before .before .before .before .before .before .before .before .pre) (deny (c .before .before .before .before .before .before .before) (c .before .before .before .before .before .before .if1 .left)) (rw (c .enum-told .given .1) at (c .before .before .before .before .work-out .ensures))
+returns-3 c = gathered-over alone (c .before .before .before .before .before .before .before .before .before .before .before .pre) (deny (c .before .before .before .before .before .before .before) (c .before .before .before .before .before .before .if1 .left)) (rw (c .enum-told .given .1) at (c .before .before .before .before .work-out .ensures))
 
 same-length-4 : tie.Need-same-length-4
 same-length-4 c = search needs
@@ -68,7 +69,7 @@ same-length-4 c = search needs
 returns-4 : tie.Need-returns-4
 returns-4 c =
     let x = rw (c .before .before .before .before .before .before .n .given .1) at (c .before .before .before .before .before .before .before .before .before .before .work-out .ensures) in
-    gathered-join (c .before .before .before .before .before .before .before .before .before .before .before .before .before .before .before .before .before .pre) (deny (c .before .before .before .before .before .before .before .before .before .before .before .before .before) (c .before .before .before .before .before .before .before .before .before .before .before .before .if1 .left)) x (c .before .before .before .before .if2 .left) (search needs) (c .before .before .join-groups .ensures)
+    gathered-join alone (c .before .before .before .before .before .before .before .before .before .before .before .before .before .before .before .before .before .pre) (deny (c .before .before .before .before .before .before .before .before .before .before .before .before .before) (c .before .before .before .before .before .before .before .before .before .before .before .before .if1 .left)) (omega arith) x (c .before .before .before .before .if2 .left) (search needs) (c .before .before .join-groups .ensures)
 
 pub gather-spec : {M : Type 1} → statement M
 gather-spec =

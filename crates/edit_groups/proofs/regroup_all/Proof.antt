@@ -19,7 +19,7 @@ use Rattle.draft.proofs.Drawn.{Behind}
 use Rattle.edit_sheet.specs.Steps.{orderWith, groupsAt}
 use Rattle.edit_groups.specs.Steps.{slotsBehind, Regrouping}
 use Rattle.edit_groups.specs.declared.Around.{Around}
-use Rattle.edit_groups.proofs.Settled.{order-bytes, front-held, draft-ready, draft-behind, settle-ready, settle-done}
+use Rattle.edit_groups.proofs.Settled.{alone-keeps, order-bytes, front-held, draft-ready, draft-behind, settle-ready, settle-done}
 use Rattle.edit_groups.proofs.regroup_all.Statement.{statement}
 use Rattle.edit_groups.proofs.regroup_all.Tie as tie
 
@@ -37,7 +37,7 @@ module _ (c : tie.After-slice-known3) where
   abbrev groups : List ℕ
   groups = groupsAt old (c .before .before .before .before .args .sheet .now)
 
-  ready : Regrouping (c .before .before .before .before .args .sheet .now) old list around (c .before .before .before .before .args .work .now)
+  ready : Regrouping alone (c .before .before .before .before .args .sheet .now) old list around (c .before .before .before .before .args .work .now)
   ready = c .before .before .before .before .pre .0
 
   roomy : draftSize ≤ length (c .before .before .before .before .args .draft .now)
@@ -60,8 +60,8 @@ module _ (c : tie.After-draft-groups) where
   front : c .before .before .before .before .count-boxes .result ≡ boxCount (around k .earlier) (groups k)
   front = c .before .before .before .before .count-boxes .ensures
 
-  behind : Behind (slotsBehind (around k) (groups k) (drop countSize (list k))) (boxCount (around k .earlier) (groups k)) (c .draft-groups .result) made
-  behind = draft-behind (ready k) (all k) _ _ _ _ _ _ _ refl (rules k) front (k .before .before .before .before .pre .1) (roomy k) (search needs) (c .draft-groups .ensures)
+  behind : Behind (slotsBehind alone (around k) (groups k) (drop countSize (list k))) (boxCount (around k .earlier) (groups k)) (c .draft-groups .result) made
+  behind = draft-behind alone-keeps (ready k) (all k) _ _ _ _ _ _ _ refl (rules k) front (k .before .before .before .before .pre .1) (roomy k) (search needs) (c .draft-groups .ensures)
 
   many : Counted (stretch alone (around k .place) (around k .to) (drop countSize (list k))) (c .draft-groups .result)
   many = rw (rules k) at (c .draft-groups .ensures .drafting .count)
@@ -82,7 +82,7 @@ part-count-boxes-end : tie.Need-part-count-boxes-end
 part-count-boxes-end c = search needs
 
 count-boxes-requires : tie.Need-count-boxes-requires
-count-boxes-requires c κs = let k = c .before .before in front-held (ready k) (all k) .there
+count-boxes-requires c κs = let k = c .before .before in front-held alone-keeps (ready k) (all k) .there
 
 sub-draft-groups : tie.Need-sub-draft-groups
 sub-draft-groups c = omega (arith, ready (c .before .before .before) .long)
@@ -94,19 +94,19 @@ part-draft-groups-end : tie.Need-part-draft-groups-end
 part-draft-groups-end c = search needs
 
 draft-groups-requires : tie.Need-draft-groups-requires
-draft-groups-requires c κs = let k = c .before .before .before .before .before .before in draft-ready (ready k) (all k) _ _ _ (rules k) (c .before .before .before .count-boxes .ensures) (roomy k)
+draft-groups-requires c κs = let k = c .before .before .before .before .before .before in draft-ready alone-keeps (ready k) (all k) _ _ _ (rules k) (c .before .before .before .count-boxes .ensures) (roomy k)
 
 mul-t13 : tie.Need-mul-t13
 mul-t13 c = search needs
 
 mul-t23 : tie.Need-mul-t23
-mul-t23 c = let d = c .before .before .before .before .before in omega (arith, front d, front-held (ready (k d)) (all (k d)) .few)
+mul-t23 c = let d = c .before .before .before .before .before in omega (arith, front d, front-held alone-keeps (ready (k d)) (all (k d)) .few)
 
 add-t24 : tie.Need-add-t24
-add-t24 c = let d = c .before .before .before .before .before in omega (arith, front d, front-held (ready (k d)) (all (k d)) .few, front-held (ready (k d)) (all (k d)) .there)
+add-t24 c = let d = c .before .before .before .before .before in omega (arith, front d, front-held alone-keeps (ready (k d)) (all (k d)) .few, front-held alone-keeps (ready (k d)) (all (k d)) .there)
 
 settle-requires : tie.Need-settle-requires
-settle-requires c κs = let d = c .before .before .before .before .before .before .before in settle-ready (ready (k d)) (all (k d)) refl (size d) (none d) _ (behind d) (many d)
+settle-requires c κs = let d = c .before .before .before .before .before .before .before in settle-ready alone-keeps (ready (k d)) (all (k d)) refl (size d) (none d) _ (behind d) (many d)
 
 same-length : tie.Need-same-length
 same-length c = search needs
@@ -118,7 +118,7 @@ same-length-3 : tie.Need-same-length-3
 same-length-3 c = search needs
 
 returns : tie.Need-returns
-returns c = let d = c .before .before .before .before .before .before .before .before .before .before in settle-done (ready (k d)) (all (k d)) refl (size d) (none d) _ (behind d) (many d) (d .draft-groups .ensures .beyond) (c .before .before .settle .ensures)
+returns c = let d = c .before .before .before .before .before .before .before .before .before .before in settle-done alone-keeps (ready (k d)) (all (k d)) refl (size d) (none d) _ (behind d) (many d) (d .draft-groups .ensures .beyond) (c .before .before .settle .ensures)
 
 pub regroup-all-spec : {M : Type 1} → statement M
 regroup-all-spec =

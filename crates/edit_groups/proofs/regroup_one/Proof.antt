@@ -20,7 +20,7 @@ use Rattle.draft.proofs.Drawn.{Behind}
 use Rattle.edit_sheet.specs.Steps.{partOf, orderWith, groupsAt}
 use Rattle.edit_groups.specs.Steps.{slotsBehind, Regrouping}
 use Rattle.edit_groups.specs.declared.Around.{Around}
-use Rattle.edit_groups.proofs.Settled.{order-bytes, settle-ready, settle-done}
+use Rattle.edit_groups.proofs.Settled.{alone-keeps, order-bytes, settle-ready, settle-done}
 use Rattle.edit_groups.proofs.Gaps.{groups-long, part-behind, gap-there, gap-boxes, gap-inside, gathering, gap-behind}
 use Rattle.edit_groups.proofs.regroup_one.Statement.{statement}
 use Rattle.edit_groups.proofs.regroup_one.Tie as tie
@@ -42,7 +42,7 @@ module _ (c : tie.After-struct-known) where
   abbrev gone : ℕ
   gone = around .later - around .earlier
 
-  ready : Regrouping (c .before .before .before .before .args .sheet .now) old list around (c .before .before .before .before .args .work .now)
+  ready : Regrouping alone (c .before .before .before .before .args .sheet .now) old list around (c .before .before .before .before .args .work .now)
   ready = c .before .before .before .before .pre .0
 
   all : Each Byte (orderWith list old (c .before .before .before .before .args .sheet .now))
@@ -63,10 +63,10 @@ module _ (c : tie.After-find-gap) where
   found = c .find-gap .ensures
 
   inside : old k .from + gap .next ≤ old k .end
-  inside = omega (arith, gap-inside (ready k) (gone k) refl gap found, groups-long (ready k), ready k .start)
+  inside = omega (arith, gap-inside alone-keeps (ready k) (gone k) refl gap found, groups-long alone-keeps (ready k), ready k .within)
 
   back : partOf (old k .from + gap .next) (old k .end) (k .before .before .before .before .args .sheet .now) ≡ drop (gap .next) (groups k)
-  back = part-behind (ready k) (gap .next) inside
+  back = part-behind alone-keeps (ready k) (gap .next) inside
 
 -- what is made, once it is
 module _ (c : tie.After-gather) where
@@ -76,8 +76,8 @@ module _ (c : tie.After-gather) where
   abbrev made : List ℕ
   made = c .gather .last .1 .1 .1 .1 .1 .0
 
-  behind : Behind (slotsBehind (around (k g)) (groups (k g)) (drop countSize (list (k g)))) (boxCount (around (k g) .earlier) (groups (k g))) (c .gather .result) made
-  behind = gap-behind (ready (k g)) (gone (k g)) refl (gap g) (found g) (all (k g)) _ _ (rules (k g)) (back g) _ _ refl (c .gather .ensures)
+  behind : Behind (slotsBehind alone (around (k g)) (groups (k g)) (drop countSize (list (k g)))) (boxCount (around (k g) .earlier) (groups (k g))) (c .gather .result) made
+  behind = gap-behind alone-keeps (ready (k g)) (gone (k g)) refl (gap g) (found g) (all (k g)) _ _ (rules (k g)) (back g) _ _ refl (c .gather .ensures)
 
   many : Counted (stretch alone (around (k g) .place) (around (k g) .to) (drop countSize (list (k g)))) (c .gather .result)
   many = rw (rules (k g)) at (c .gather .ensures .count)
@@ -95,13 +95,13 @@ part-find-gap-end : tie.Need-part-find-gap-end
 part-find-gap-end c = search needs
 
 find-gap-requires : tie.Need-find-gap-requires
-find-gap-requires c κs = gap-there (ready (c .before .before)) _ refl
+find-gap-requires c κs = gap-there alone-keeps (ready (c .before .before)) _ refl
 
 add-next : tie.Need-add-next
 add-next c = let g = c .before in omega (arith, inside g, ready (k g) .end)
 
 sub-left : tie.Need-sub-left
-sub-left c = let g = c .before .before .before in gap-boxes (ready (k g)) (gone (k g)) refl (gap g) (found g)
+sub-left c = let g = c .before .before .before in gap-boxes alone-keeps (ready (k g)) (gone (k g)) refl (gap g) (found g)
 
 sub-gather : tie.Need-sub-gather
 sub-gather c = let g = c .before .before .before in omega (arith, ready (k g) .long)
@@ -122,13 +122,13 @@ part-gather-end-2 : tie.Need-part-gather-end-2
 part-gather-end-2 c = let g = c .before .before .before .before .before in omega (arith, inside g, ready (k g) .end)
 
 gather-requires : tie.Need-gather-requires
-gather-requires c κs = let g = c .before .before .before .before .before .before .before in gathering (ready (k g)) (gone (k g)) refl (gap g) (found g) (all (k g)) _ _ (rules (k g)) (back g) (k g .before .before .before .before .pre .1)
+gather-requires c κs = let g = c .before .before .before .before .before .before .before in gathering alone-keeps (ready (k g)) (gone (k g)) refl (gap g) (found g) (all (k g)) _ _ (rules (k g)) (back g) (k g .before .before .before .before .pre .1)
 
 sub-t15 : tie.Need-sub-t15
 sub-t15 c = let g = c .before .before .before .before .before .before .before .before .before .before .before in ready (k g) .placed .later
 
 settle-requires : tie.Need-settle-requires
-settle-requires c κs = let d = c .before .before .before .before .before in settle-ready (ready (k (g d))) (all (k (g d))) refl (found (g d) .0) refl _ (behind d) (many d)
+settle-requires c κs = let d = c .before .before .before .before .before in settle-ready alone-keeps (ready (k (g d))) (all (k (g d))) refl (found (g d) .0) refl _ (behind d) (many d)
 
 same-length : tie.Need-same-length
 same-length c = search needs
@@ -137,7 +137,7 @@ same-length-2 : tie.Need-same-length-2
 same-length-2 c = search needs
 
 returns : tie.Need-returns
-returns c = let d = c .before .before .before .before .before .before .before .before in settle-done (ready (k (g d))) (all (k (g d))) refl (found (g d) .0) refl _ (behind d) (many d) (d .gather .ensures .beyond) (c .before .before .settle .ensures)
+returns c = let d = c .before .before .before .before .before .before .before .before in settle-done alone-keeps (ready (k (g d))) (all (k (g d))) refl (found (g d) .0) refl _ (behind d) (many d) (d .gather .ensures .beyond) (c .before .before .settle .ensures)
 
 pub regroup-one-spec : {M : Type 1} → statement M
 regroup-one-spec =
