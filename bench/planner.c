@@ -63,7 +63,7 @@ static int full(const struct region *r) {
     return 1;
 }
 
-/* The count of a section, its rules where they are wanted, and 0; or the first fault. */
+/* The count of a section, its rules where they are wanted, and 0; or the first refusal. */
 static uint32_t read_section(const uint8_t *s, size_t length, size_t most, size_t *count, struct rule *rules) {
     if (length < COUNT) return 3;
     size_t n = two(s);
@@ -234,7 +234,7 @@ struct edit {
     size_t record_length;
 };
 
-/* The new lists in order_draft, how many rules the edited one has, and 0; or the fault. */
+/* The new lists in order_draft, how many rules the edited one has, and 0; or the refusal. */
 static uint32_t splice(const uint8_t *sheet, const struct edit *e, size_t *count) {
     if (e->list > 1) return 9;
     size_t start = e->list == 0 ? 0 : parts.middle;

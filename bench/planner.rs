@@ -152,7 +152,7 @@ fn compare(sheet: &[u8]) -> Result<usize, u32> {
     }
 }
 
-// The lists with the edit done on them, as an order sheet; or the fault.
+// The lists with the edit done on them, as an order sheet; or the refusal.
 fn splice(sheet: &[u8], pair: &Pair, edit: &Edit) -> Result<Vec<u8>, u32> {
     let middle = 2 + RECORD * pair.gate.len();
     let third = middle + 2 + RECORD * pair.own.len();

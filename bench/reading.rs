@@ -1,4 +1,4 @@
-// The safe Rust planner's reading of order sheets and pair sheets from left to right; the first fault decides.
+// The safe Rust planner's reading of order sheets and pair sheets from left to right; the first refusal decides.
 use crate::sheets::{four, two, Region, Rule, BOX, FULL, GATE, MOST, OWN, RECORD};
 
 pub fn region_at(s: &[u8]) -> Region {
@@ -21,7 +21,7 @@ pub fn sound(r: &Rule) -> bool {
     r.action <= 1 && proper(&r.region)
 }
 
-// A section's rules and the bytes behind it, or the first fault.
+// A section's rules and the bytes behind it, or the first refusal.
 pub fn section(s: &[u8], most: usize) -> Result<(Vec<Rule>, &[u8]), u32> {
     if s.len() < 2 {
         return Err(3);

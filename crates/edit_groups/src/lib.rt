@@ -23,8 +23,8 @@ ghost use Rattle.policy.specs.Fields.{recordSize};
 ghost use Rattle.policy.specs.Rules.{anyAllow};
 ghost use Rattle.policy.specs.Move.{alone};
 ghost use Rattle.wire.specs.Lists.{listSize};
-ghost use Rattle.sheet.specs.Steps.{rulesOf};
-ghost use Rattle.draft.specs.Steps.{draftSize};
+ghost use Rattle.sheet.specs.Steps.{rulesOf, boxCount};
+ghost use Rattle.edit_sheet.specs.Steps.{groupsAt};
 ghost use Rattle.edit_groups.specs.Steps.{aroundOf, AroundReady, NoneDenies, JoinReady, JoinedIn, Gathering, Gathered, Settling, Settled, Regrouping, Regrouped, AllAnew};
 
 // Where the groups of an edited A, which has `count` rules, come from: those before `earlier` and those from `later` up to `groups`
@@ -212,27 +212,26 @@ fn regroup_one(
     settle(sheet, old, list, stay, drafted, work)
 }
 
-// The groups of the new A where all rules from the place on are to be worked out.
+// The groups of the new A where all rules from the place on are to be worked out; those before it have so many boxes. The draft is
+// local: what is lent is written only once the edit is accepted.
 fn regroup_all(
     sheet: &mut [u8],
     old: PairLayout,
     list: &[u8],
     around: Around,
-    draft: &mut [u8],
+    front: usize,
     work: &mut [u8],
 ) -> Answer
-    requires { ⌜ Regrouping alone (now sheet) old (now list) around (now work) × AllAnew around × (draftSize ≤ length (now draft)) ⌝ }
+    requires { ⌜ Regrouping alone (now sheet) old (now list) around (now work) × AllAnew around × (front ≡ boxCount (around .earlier) (groupsAt old (now sheet))) ⌝ }
     ensures { λ r. ⌜ Regrouped alone (now (sheet .entry)) old (now (list .entry)) around (now (work .entry)) r (now (sheet .exit)) (now (work .exit)) ⌝ }
 {
-    let from = old.from;
-    let used = old.end;
-    let front = kept::count_boxes(&sheet[from..used], around.earlier);
+    let mut draft = [0u8; DRAFT_BYTES];
     let drafted = draft_groups(
         &list[COUNT_BYTES..],
         around.place,
         around.to,
         front,
-        draft,
+        &mut draft,
         work,
     );
     let stay = Kept {
@@ -240,11 +239,11 @@ fn regroup_all(
         size: COUNT_BYTES * around.earlier + BOX_BYTES * front,
         behind: 0,
     };
-    settle(sheet, old, list, stay, drafted, draft)
+    settle(sheet, old, list, stay, drafted, &draft)
 }
 
-// The groups of the new A made, and its pair sheet written if there is room for them. A draft is a local buffer, so that a copy from
-// it and to it cannot meet anything lent.
+// The groups of the new A made, and its pair sheet written if there is room for them. Where no group is kept there is nothing to count;
+// with this second call the compiler also leaves the draft in a frame of its own, and other edits do without its 26 KB of stack.
 pub fn regroup(
     sheet: &mut [u8],
     old: PairLayout,
@@ -258,6 +257,11 @@ pub fn regroup(
     if around.to <= around.place + 1 {
         return regroup_one(sheet, old, list, around, work);
     }
-    let mut draft = [0u8; DRAFT_BYTES];
-    regroup_all(sheet, old, list, around, &mut draft, work)
+    if around.earlier == 0 {
+        return regroup_all(sheet, old, list, around, 0, work);
+    }
+    let from = old.from;
+    let used = old.end;
+    let front = kept::count_boxes(&sheet[from..used], around.earlier);
+    regroup_all(sheet, old, list, around, front, work)
 }

@@ -35,7 +35,7 @@ fn make_room(sheet: &mut [u8], from: usize, to: usize, n: usize)
 }
 
 // The pair sheet of a new A: its list, B, the count of groups, those kept before the place, which stand in the sheet, the new ones and
-// those kept behind them, which are handed over, and zeros; its length.
+// those kept behind the place, which are handed over in this order, and zeros; its length.
 pub fn put_gate(
     sheet: &mut [u8],
     old: PairLayout,

@@ -54,6 +54,7 @@ fn revise_gate_with(
     }
 }
 
+// The new A has a buffer of its own, since the work buffer is needed for its groups.
 fn revise_gate(
     sheet: &mut [u8],
     old: PairLayout,

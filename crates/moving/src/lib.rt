@@ -51,7 +51,7 @@ fn plan_with(order: &[u8], sheet: &mut [u8], draft: &mut [u8], work: &mut [u8]) 
     }
 }
 
-// The draft is a local buffer, so that a copy from it and to it cannot meet anything lent.
+// The draft is local: what is lent is written only once the move is accepted.
 fn plan(order: &[u8], sheet: &mut [u8], work: &mut [u8]) -> Answer
     requires { ⌜ (pairSize ≤ length (now sheet)) × (workSize ≤ length (now work)) ⌝ }
     ensures { λ r. ⌜ Planned (now (order .entry)) (now (sheet .entry)) (now (work .entry)) r (now (sheet .exit)) (now (work .exit)) ⌝ }

@@ -25,7 +25,7 @@ pub record Asked : Type 0 where
   pub change : Change
   pub bytes : List ℕ
 
--- A request of these three.
+-- The request that a call for C makes of its arguments.
 abbrev pub request : ℕ → ℕ → Change → Request
 request which place change = record { which = which; place = place; change = change }
 

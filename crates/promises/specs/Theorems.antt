@@ -1,7 +1,6 @@
--- What whoever uses the calls may count on: demands 2 and 3, over the calls' own statements (`Moves`, `Checks`, `Edits`;
--- `Lists` has the bytes of the two lists). Each
--- theorem is a type here, with all that it asks for, and has one value in proofs/Theorems.antt; `PlannerTheorem` is all of them.
--- Assumes nothing.
+-- What whoever uses the calls may count on: demands 2 and 3, over the calls' own statements (`Moves`, `Checks`, `Edits`; `Lists`
+-- has the bytes of the two lists). Each theorem is a type here, with all that it asks for, and has one value in
+-- proofs/Theorems.antt; `PlannerTheorem` is all of them. Assumes nothing.
 use mathlib.Core.Path.{_≡_}
 use mathlib.Core.List.{List, [], _∷_}
 use mathlib.Core.Bool.{true, cond}

@@ -1,6 +1,6 @@
 // What the planner's calls promise: the statement of each of them, demands 2 and 3 and the theorems over them. There are no
-// functions here, so that whoever builds on the library needs this crate alone; what an edit is asked to do is declared, since
-// statements name it.
+// functions here: whoever builds on the statements needs none of the crates that do the calls. What an edit is asked to do is
+// declared, since statements name it.
 
 // What an edit does at its place.
 pub enum Change {

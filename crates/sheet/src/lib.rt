@@ -50,7 +50,7 @@ enum Groups {
     Refused(Refusal),
 }
 
-// Sections A and B.
+// Where A and B lie, or the first refusal.
 pub enum OrderParts {
     Parts(OrderLayout),
     Refused(Refusal),
@@ -66,7 +66,7 @@ pub struct PairLayout {
     pub end: usize,
 }
 
-// A pair sheet.
+// Where A, B and C lie, or the first refusal.
 pub enum PairParts {
     Parts(PairLayout),
     Refused(Refusal),
