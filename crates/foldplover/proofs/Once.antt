@@ -16,6 +16,8 @@ use Rattle.promises.proofs.Calls.{call-once}
 use Rattle.checking.proofs.Checking.{check-once}
 use Rattle.origins.specs.Origin.{Origins}
 use Rattle.origins.proofs.Calls.{origin-once}
+use Rattle.reporting.specs.Report.{Reports}
+use Rattle.reporting.proofs.Calls.{report-once}
 use Rattle.foldplover.specs.Coded.{Coded}
 use Rattle.foldplover.proofs.Codes.{same-number}
 
@@ -52,3 +54,10 @@ pub origin-number-once :
     (p : Packet) (s ns w : List ℕ) {n m : ℕ} {u v u′ v′ : List ℕ} → Coded (λ q. Origins p s ns w q u v) n → Coded (λ q. Origins p s ns w q u′ v′) m
     → (n ≡ m) × (u ≡ u′) × (v ≡ v′)
 origin-number-once p s ns w x y = let o = origin-once p s ns w (x .below) (y .below) in (same-number x y (o .0), o .1, o .2)
+
+pub report-number-once :
+    (s packets earlier later ts hs w : List ℕ) {n m : ℕ} {x y z x′ y′ z′ : List ℕ} → Coded (λ q. Reports s packets earlier later ts hs w q x y z) n
+    → Coded (λ q. Reports s packets earlier later ts hs w q x′ y′ z′) m → (n ≡ m) × (x ≡ x′) × (y ≡ y′) × (z ≡ z′)
+report-number-once s packets earlier later ts hs w a b =
+    let o = report-once s packets earlier later ts hs w (a .below) (b .below) in
+    (same-number a b (o .0), o .1, o .2, o .3)

@@ -8,6 +8,7 @@ use native.Mathlib.Omega.{arith}
 use lib.Dec.{leb}
 use lib.ListN.{length}
 use borrow.Author.Tests.{leb-true}
+use Rattle.lists.proofs.Tests.{and-true}
 use Rattle.policy.specs.Fields.{limits, recordSize, workSize}
 use Rattle.policy.specs.Ranges.{Packet}
 use Rattle.policy.specs.Refusals.{refusalBase, Outcome, accepted, refused, test, said}
@@ -25,6 +26,7 @@ use Rattle.promises.proofs.Lengths.{filled-within, call-length}
 use Rattle.filter.specs.Lookup.{lookupNumber}
 use Rattle.origins.specs.Origin.{Decision, originCall, valueOf, Origins}
 use Rattle.origins.proofs.Calls.{value-small}
+use Rattle.reporting.specs.Report.{Report, totalsSize, hitsSize, hitsOf, allLent, reportCall, Reports}
 use Rattle.foldplover.specs.Coded.{Plain}
 use Rattle.wire.specs.Lists.{listBytes}
 
@@ -84,3 +86,18 @@ value-plain (refused k) h = tt
 
 pub origin-plain : {p : Packet} {s ns w ns′ w′ : List ℕ} {q : Answer} → Origins p s ns w q ns′ w′ → Plain (said q)
 origin-plain {p = p} {s = s} {ns = ns} {w = w} x = subst Plain (sym (x .answer)) (value-plain (originCall p s ns w) (value-small p s ns w))
+
+-- Report: as many places as there are hits, which are within their buffer.
+report-small : (s packets earlier later ts hs w : List ℕ) (x : Outcome Report) → reportCall s packets earlier later (allLent ts hs w) ≡ x
+    → length (written hitsOf hitsSize hs x) ≡ length hs → Plain (lengthOf hitsOf x)
+unfolding reportCall allLent written lengthOf roomFor
+report-small s packets earlier later ts hs w (accepted r) e h =
+    let t = test-accepted (leb totalsSize (length ts) && (leb hitsSize (length hs) && leb workSize (length w))) 1 _ e in
+    let k = and-true (leb hitsSize (length hs)) _ (and-true (leb totalsSize (length ts)) _ (t .0) .1) in
+    let f = filled-within hitsSize hs (r .hits) (leb-true hitsSize (length hs) (k .0)) h in
+    omega arith
+report-small s packets earlier later ts hs w (refused n) e h = tt
+
+pub report-plain : {s packets earlier later ts hs w ts′ hs′ w′ : List ℕ} {q : Answer} → Reports s packets earlier later ts hs w q ts′ hs′ w′ → length hs′ ≡ length hs → Plain (said q)
+report-plain {s = s} {packets = packets} {earlier = earlier} {later = later} {ts = ts} {hs = hs} {w = w} x e =
+    subst Plain (sym (x .answer)) (report-small s packets earlier later ts hs w (reportCall s packets earlier later (allLent ts hs w)) refl (sym (ap length (x .hits)) ∙ e))

@@ -19,6 +19,7 @@ ghost use Rattle.promises.specs.Edits.{Edits, request, asked};
 ghost use Rattle.promises.specs.declared.Change.the-variants.{Insert, Delete, Replace};
 ghost use Rattle.filter.specs.Lookup.{lookup, lookupNumber};
 ghost use Rattle.origins.specs.Origin.{Origins};
+ghost use Rattle.reporting.specs.Report.{Reports};
 ghost use Rattle.foldplover.specs.Coded.{coded, Plain, Coded};
 
 fn answer_number(a: Answer) -> u32
@@ -180,4 +181,19 @@ pub extern "C" fn foldplover_origin(
 {
     let p = packet_of(src, dst, sport, dport, proto);
     answer_number(origins::origin(p, sheet, numbers, work))
+}
+
+#[no_mangle]
+pub extern "C" fn foldplover_report(
+    sheet: &[u8],
+    packets: &[u8],
+    earlier: &[u8],
+    later: &[u8],
+    totals: &mut [u64],
+    hits: &mut [u32],
+    work: &mut [u8],
+) -> u32
+    ensures { λ r. ⌜ Coded (λ q. Reports (now (sheet .entry)) (now (packets .entry)) (now (earlier .entry)) (now (later .entry)) (now (totals .entry)) (now (hits .entry)) (now (work .entry)) q (now (totals .exit)) (now (hits .exit)) (now (work .exit))) r ⌝ }
+{
+    answer_number(reporting::report(sheet, packets, earlier, later, totals, hits, work))
 }

@@ -88,13 +88,13 @@ ranges-bytes-back (w ∷ ws) s h b =
     rw (u, v, i, take-add (w + w) (sizeOf ws) s, take-add w w s) (sym (append-assoc (take w s) (take w (drop w s)) (take (sizeOf ws) (drop (w + w) s))))
 
 -- In every row of the table the highest value is the highest of its width; so a box that number 4 lets pass fits.
-abbrev exact : Field → Bool
+abbrev pub exact : Field → Bool
 exact f = eqb (suc (f .highest)) (256 ^ f .width)
 
-abbrev highestOf : Field → ℕ
+abbrev pub highestOf : Field → ℕ
 highestOf f = f .highest
 
-abbrev widthOf : Field → ℕ
+abbrev pub widthOf : Field → ℕ
 widthOf f = f .width
 
 rows-fit : (t : List Field) (b : Region) → every exact t ≡ true → proper (map highestOf t) b ≡ true → Fits (map widthOf t) b

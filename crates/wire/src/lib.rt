@@ -94,7 +94,7 @@ fn put_one(out: &mut [u8], at: usize, x: u32)
 }
 
 // The number of w bytes that begin at `at`.
-fn number_at(s: &[u8], at: usize, w: usize) -> u32
+pub fn number_at(s: &[u8], at: usize, w: usize) -> u32
     requires { ⌜ (at + w ≤ length (now s)) × (isWidth w ≡ true) ⌝ }
     ensures { λ r. ⌜ r ≡ numberIn (take w (drop at (now (s .entry)))) ⌝ }
 {

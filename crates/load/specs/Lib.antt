@@ -1,0 +1,4 @@
+pub mod Load
+pub mod Packets
+pub mod Theorems
+pub mod Steps
