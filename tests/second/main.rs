@@ -9,18 +9,21 @@ mod draw;
 mod driver;
 mod model;
 mod selftest;
+mod selftest_reports;
 
 use std::io::{self, Read, Write};
 use std::process::ExitCode;
 
 use draw::stream;
-use model::{before, calls, plan, sheets};
+use model::{before, calls, plan, report_program, sheets};
 
 const USAGE: &str = "\
 second selftest                the model's own tests
 second plan < ORDER            what plan prints for an order sheet
 second move < ORDER            the pair sheet of an order sheet
 second before < ORDER          the pair sheet that a move gave before W2
+second report SHEET PACKETS EARLIER LATER
+                               what report prints for these files
 second cases COUNT SEED        a stream of cases for the product's test program
 second expected < CASES        what that program has to print
 second drive N SEED [FIRST]    N cases against the library (built with --cfg library)";
@@ -59,6 +62,7 @@ fn main() -> ExitCode {
             Ok(pair) => print(&sheets::pair_bytes(&pair)),
             Err(refusal) => fail(&format!("refused {}", refusal.number())),
         },
+        (["report", names @ ..], _) => print(report_program::print(names).as_bytes()),
         (["before"], _) => {
             let order = sheets::read_order(&standard_input()).ok();
             match order.and_then(|order| before::moved(&order.gate, &order.own)) {

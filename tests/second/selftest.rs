@@ -1,6 +1,7 @@
 //! The model's own tests: 01's boundary table with the line that 02, W2 changes, its rows, its
 //! printed example, boxes that touch, a sheet of before W2 and origins worked out by hand, and the
-//! facts about cutting, moving and origins, tried packet by packet over small ranges.
+//! facts about cutting, moving and origins, tried packet by packet over small ranges. Those of
+//! reports are in selftest_reports.rs.
 
 use crate::draw;
 use crate::draw::random::Random;
@@ -10,8 +11,9 @@ use crate::model::calls::{self, encode, Change, Edit, REFUSED};
 use crate::model::rows::{self, full};
 use crate::model::sheets::{self, PairSheet};
 use crate::model::{before, plan};
+use crate::selftest_reports as reports;
 
-const M: u64 = 4_294_967_295;
+pub const M: u64 = 4_294_967_295;
 
 /// Source by destination, the other fields full.
 fn area(source: (u64, u64), destination: (u64, u64)) -> PacketBox {
@@ -19,15 +21,15 @@ fn area(source: (u64, u64), destination: (u64, u64)) -> PacketBox {
     PacketBox::full().with(0, range(source)).with(1, range(destination))
 }
 
-fn source(low: u64, high: u64) -> PacketBox {
+pub fn source(low: u64, high: u64) -> PacketBox {
     area((low, high), (0, M))
 }
 
-fn allow(area: PacketBox) -> Rule {
+pub fn allow(area: PacketBox) -> Rule {
     Rule::new(area, Action::Allow)
 }
 
-fn deny(area: PacketBox) -> Rule {
+pub fn deny(area: PacketBox) -> Rule {
     Rule::new(area, Action::Deny)
 }
 
@@ -197,7 +199,7 @@ const fn refused(number: u32) -> Said {
     (REFUSED + number, [7; 4])
 }
 
-fn moved(gate: &[Rule], own: &[Rule]) -> PairSheet {
+pub fn moved(gate: &[Rule], own: &[Rule]) -> PairSheet {
     calls::moved(&sheets::order_bytes(gate, own)).expect("the example moves")
 }
 
@@ -414,12 +416,16 @@ fn facts() -> Vec<(&'static str, bool)> {
     let moving = moves.len() > 90 && moves.iter().all(|&held| held);
     let found: Vec<bool> = (0..100).filter_map(|_| origins_hold(&mut random, &packets)).collect();
     let origins = found.len() > 90 && found.iter().all(|&held| held);
+    let counted: Vec<bool> =
+        (0..100).filter_map(|_| reports::hold(&mut random, &packets)).collect();
+    let reporting = counted.len() > 90 && counted.iter().all(|&held| held);
     vec![
         ("cutting, packet by packet", cutting),
         ("cutting boxes that touch", touching),
         ("no fewer boxes than a cut", fewest() == (true, false)),
         ("moving, packet by packet", moving),
         ("origins, packet by packet", origins),
+        ("reports, packet by packet", reporting),
     ]
 }
 
@@ -433,6 +439,7 @@ pub fn run() -> bool {
         row_table(),
         before_table(),
         origin_table(),
+        reports::table(),
         size_table(),
         facts(),
     ];

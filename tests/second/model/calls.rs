@@ -1,8 +1,9 @@
 //! The calls on lent buffers: the answer, and what is left in each buffer (01, "Calls", "Numbers
-//! given back"; 02, W1).
+//! given back"; 02, W1 and W3).
 
 use crate::model::boxes::{self, Group, Origin, Packet, Rule};
 use crate::model::refusals::{Fault, Part, Refusal};
+use crate::model::reports::{self, Load, TOTALS};
 use crate::model::sheets::{self, OrderSheet, PairSheet, SECTION_A, SECTION_B};
 
 pub const LARGEST_ORDER_SHEET: usize = 8_644;
@@ -14,6 +15,7 @@ pub const LARGEST_B_LIST: usize = 6_914;
 pub const WORK: usize = 53_248;
 pub const RULE_NUMBERS: usize = 11;
 pub const ORIGIN_NUMBERS: usize = 3;
+pub const HITS: usize = 1_024;
 pub const REFUSED: u32 = 65_536;
 
 pub type Answer = Result<u64, Refusal>;
@@ -211,7 +213,7 @@ fn groups_of(lines: &[Line], gate: &[Rule]) -> Result<Vec<Group>, Refusal> {
 }
 
 /// A pair sheet that is not stale.
-fn checked(bytes: &[u8]) -> Result<PairSheet, Refusal> {
+pub fn checked(bytes: &[u8]) -> Result<PairSheet, Refusal> {
     let pair = sheets::read_pair(bytes)?;
     match boxes::groups(&pair.gate)? == pair.groups {
         true => Ok(pair),
@@ -307,6 +309,25 @@ pub fn origin_numbers(origin: Origin) -> [u32; ORIGIN_NUMBERS] {
         Origin::Gate { place, number } => [0, place as u32, number as u32],
         Origin::Own { place } => [1, place as u32, 0],
     }
+}
+
+/// The answer is the number of places; hits behind them are zero up to 1,024.
+pub fn report(
+    sheet: &[u8],
+    load: &Load,
+    totals: &mut [u64],
+    hits: &mut [u32],
+    work: &mut [u8],
+) -> Answer {
+    lent(Part::Totals, totals.len(), TOTALS)?;
+    lent(Part::Hits, hits.len(), HITS)?;
+    lent(Part::Work, work.len(), WORK)?;
+    clear(work);
+    let report = reports::report(&checked(sheet)?, load)?;
+    totals[..TOTALS].copy_from_slice(&report.counts.totals());
+    hits[..HITS].fill(0);
+    hits.iter_mut().zip(&report.hits).for_each(|(hit, &counted)| *hit = counted as u32);
+    Ok(report.hits.len() as u64)
 }
 
 pub fn split(order: &[u8], a: &mut [u8], b: &mut [u8]) -> Answer {

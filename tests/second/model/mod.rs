@@ -6,5 +6,7 @@ pub mod boxes;
 pub mod calls;
 pub mod plan;
 pub mod refusals;
+pub mod report_program;
+pub mod reports;
 pub mod rows;
 pub mod sheets;

@@ -1,5 +1,5 @@
-//! The numbers given back (01, "Numbers given back"). The number alone is the answer; part and
-//! fault say why it was given, so that the driver can see that every ground was met.
+//! The numbers given back (01, "Numbers given back"; 02, W3). The number alone is the answer; part
+//! and fault say why it was given, so that the driver can see that every ground was met.
 
 #[derive(Clone, Copy, PartialEq, Eq, PartialOrd, Ord, Debug)]
 pub enum Part {
@@ -9,6 +9,11 @@ pub enum Part {
     List,
     Record,
     Numbers,
+    Packets,
+    Earlier,
+    Later,
+    Totals,
+    Hits,
     A,
     B,
     C,
@@ -36,15 +41,19 @@ pub enum Fault {
     GroupsDiffer,
     NoSuchPlace,
     NoSuchList,
+    TooManyPackets,
+    BrokenPacket,
+    ReadingsMissing,
 }
 
 impl Fault {
     pub fn number(self) -> u32 {
         match self {
             Fault::ShortBuffer | Fault::StatedLength => 1,
-            Fault::CountLimits => 2,
+            Fault::CountLimits | Fault::TooManyPackets => 2,
             Fault::CountMissing | Fault::GroupCountMissing | Fault::RecordsMissing => 3,
             Fault::LeftOver | Fault::RecordLength => 3,
+            Fault::ReadingsMissing | Fault::BrokenPacket => 3,
             Fault::BadRecord => 4,
             Fault::NotComplete | Fault::NoRuleFits => 5,
             Fault::TooManyPieces => 6,
