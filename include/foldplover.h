@@ -55,7 +55,7 @@ extern "C" {
 
 /* The least length of each buffer that is written, and how far it is zeroed behind its content. */
 #define FOLDPLOVER_PAIR_SHEET 28742u  /* pair sheet: move, insert, delete, replace */
-#define FOLDPLOVER_WORK 53248u        /* work: move, edits, check, both list calls, origin */
+#define FOLDPLOVER_WORK 53248u        /* work: move, edits, check, both lists, origin, report */
 #define FOLDPLOVER_CELL_LIST 27650u   /* list: foldplover_cell_list */
 #define FOLDPLOVER_GATE_LIST 29u      /* list: foldplover_gate_list */
 #define FOLDPLOVER_ORDER_SHEET 8644u  /* order sheet: foldplover_join */
@@ -64,11 +64,18 @@ extern "C" {
 #define FOLDPLOVER_RECORD 27u         /* record: foldplover_record, and every record read */
 #define FOLDPLOVER_NUMBERS 11u        /* a rule as numbers: 5 lows, 5 highs, action */
 #define FOLDPLOVER_ORIGIN 3u          /* foldplover_origin, in numbers and not in bytes */
+#define FOLDPLOVER_TOTALS 6u          /* totals: foldplover_report, in numbers */
+#define FOLDPLOVER_HITS 1024u         /* hits: foldplover_report, in numbers */
+
+/* What foldplover_report reads, in bytes. */
+#define FOLDPLOVER_PACKET 13u
+#define FOLDPLOVER_READING 4u         /* for each place of the cell list */
 
 /* Counts. */
 #define FOLDPLOVER_MOST_GATE_RULES 64u
 #define FOLDPLOVER_MOST_OWN_RULES 256u
 #define FOLDPLOVER_MOST_RULES 1024u   /* of a list; of pieces; of boxes and own rules together */
+#define FOLDPLOVER_MOST_PACKETS 1000000u
 
 /* The list that an edit changes, or that an origin names. */
 #define FOLDPLOVER_A 0u               /* gate rules */
@@ -79,7 +86,7 @@ extern "C" {
 
 enum foldplover_refusal {
     FOLDPLOVER_BUFFER_SHORT = 1,    /* a buffer below its least length, or used beyond its buffer */
-    FOLDPLOVER_COUNT_OUTSIDE = 2,   /* a list without a rule, or with more than it may have */
+    FOLDPLOVER_COUNT_OUTSIDE = 2,   /* a list without a rule or with too many; too many packets */
     FOLDPLOVER_LENGTH_WRONG = 3,    /* input too short or too long; a record not of 27 bytes */
     FOLDPLOVER_RULE_BAD = 4,        /* a range or an action that cannot be */
     FOLDPLOVER_NOT_COMPLETE = 5,    /* no full rule at the end; no rule has the packet */
@@ -232,6 +239,34 @@ uint32_t foldplover_origin(uint32_t src, uint32_t dst, uint32_t sport, uint32_t 
                            uint32_t proto,
                            const uint8_t *sheet, size_t sheet_len,
                            uint32_t *numbers, size_t numbers_len,
+                           uint8_t *work, size_t work_len);
+
+/*
+ * Checks a pair sheet and reports over packets: how many rules they try in the old pair and in the
+ * moved pair, how many of them are forwarded, and the hits that the cell filter's own counters took
+ * between two readings.
+ *
+ * A packet takes 13 bytes: source address (4), destination address (4), source port (2),
+ * destination port (2), protocol (1). earlier and later are the counters as they were read, 4 bytes
+ * for each place of the list that foldplover_cell_list writes, in its order. A counter goes from
+ * 4,294,967,295 to 0; its hits are right while fewer than 4,294,967,296 lie between the readings.
+ *
+ * Answers how many places that list has. totals: packets; rules tried before (the gate's up to the
+ * one that decides and, if it allows, the cell's own likewise); rules tried after (the new gate's
+ * one, and the cell list's up to the one that decides); packets forwarded; and the gain, before
+ * over after in lowest terms, as numerator and denominator, both 0 for no packets. hits: one number
+ * for each place, zeros from there up to 1,024. Any further totals and hits stay.
+ * totals_len and hits_len count numbers, not bytes; sheet_len is the pair sheet's own length.
+ * Refuses in this order: 1 (fewer than 6 totals, fewer than 1,024 hits, work); then as
+ * foldplover_check; 3 (earlier or later not of 4 bytes a place); 2 (more than 1,000,000 whole
+ * packets); 3 (the last packet not whole).
+ */
+uint32_t foldplover_report(const uint8_t *sheet, size_t sheet_len,
+                           const uint8_t *packets, size_t packets_len,
+                           const uint8_t *earlier, size_t earlier_len,
+                           const uint8_t *later, size_t later_len,
+                           uint64_t *totals, size_t totals_len,
+                           uint32_t *hits, size_t hits_len,
                            uint8_t *work, size_t work_len);
 
 /*

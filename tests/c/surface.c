@@ -467,6 +467,200 @@ static void test_origin_refusals(void)
     expect_all("work after origin's 1", work, UNTOUCHED, sizeof work);
 }
 
+#define PLACES 5u
+#define PACKETS 5u
+
+/* Source 1, source port 5, protocol 6. The gate drops the first three at place 1: boxes 0, 1 and 3.
+ * It forwards the last two from places 0 and 2, and so does the cell. */
+static const uint8_t packets[PACKETS * FOLDPLOVER_PACKET] = {
+    0x00, 0x00, 0x00, 0x01, 0x00, 0x00, 0x00, 0x09, 0x00, 0x05, 0x00, 0x50, 0x06,
+    0x00, 0x00, 0x00, 0x01, 0x00, 0x00, 0x00, 0x14, 0x00, 0x05, 0x00, 0x50, 0x06,
+    0x00, 0x00, 0x00, 0x01, 0x00, 0x00, 0x00, 0x0f, 0x00, 0x05, 0x00, 0x51, 0x06,
+    0x00, 0x00, 0x00, 0x01, 0x00, 0x00, 0x00, 0x0f, 0x00, 0x05, 0x00, 0x50, 0x06,
+    0x00, 0x00, 0x00, 0x01, 0x00, 0x00, 0x00, 0x1e, 0x00, 0x05, 0x00, 0x50, 0x06};
+
+/* The second counter rolls over, the third stands still, the fourth takes all hits but one of a
+ * whole roll. Behind the places of the example stands one more. */
+static const uint8_t earlier[(PLACES + 1) * FOLDPLOVER_READING] = {
+    0x00, 0x00, 0x00, 0x00, 0xff, 0xff, 0xff, 0xfe, 0x80, 0x00, 0x00, 0x00,
+    0x00, 0x00, 0x00, 0x01, 0x01, 0x02, 0x03, 0x04, 0x00, 0x00, 0x00, 0x05};
+static const uint8_t later[(PLACES + 1) * FOLDPLOVER_READING] = {
+    0x00, 0x00, 0x00, 0x11, 0x00, 0x00, 0x00, 0x03, 0x80, 0x00, 0x00, 0x00,
+    0x00, 0x00, 0x00, 0x00, 0x02, 0x04, 0x06, 0x08, 0x00, 0x00, 0x00, 0x0c};
+static const uint32_t hits_between[PLACES + 1] = {17, 5, 0, 4294967295u, 0x01020304, 7};
+
+/* What the last report left, one more than the least of each. */
+static uint64_t totals[FOLDPLOVER_TOTALS + 1];
+static uint32_t hits[FOLDPLOVER_HITS + 1];
+
+static void forget_report(void)
+{
+    memset(totals, UNTOUCHED, sizeof totals);
+    memset(hits, UNTOUCHED, sizeof hits);
+    memset(work, UNTOUCHED, sizeof work);
+}
+
+static uint32_t report(size_t length, const uint8_t *bytes, size_t bytes_length,
+                       size_t earlier_length, size_t later_length)
+{
+    forget_report();
+    return foldplover_report(sheet, length, bytes, bytes_length, earlier, earlier_length, later,
+                             later_length, totals, FOLDPLOVER_TOTALS + 1, hits,
+                             FOLDPLOVER_HITS + 1, work, sizeof work);
+}
+
+/* Both readings of so many places. */
+static uint32_t report_over(size_t length, const uint8_t *bytes, size_t bytes_length,
+                            size_t places)
+{
+    return report(length, bytes, bytes_length, places * FOLDPLOVER_READING,
+                  places * FOLDPLOVER_READING);
+}
+
+static void expect_report(const char *what, const uint64_t *wanted, size_t places)
+{
+    const uint8_t *total_bytes = (const uint8_t *)totals, *hit_bytes = (const uint8_t *)hits;
+    const size_t total_end = FOLDPLOVER_TOTALS * sizeof totals[0];
+    const size_t hit_end = FOLDPLOVER_HITS * sizeof hits[0], filled = places * sizeof hits[0];
+    expect_bytes(what, total_bytes, (const uint8_t *)wanted, total_end);
+    expect_bytes(what, hit_bytes, (const uint8_t *)hits_between, filled);
+    expect_all("hits behind the places", hit_bytes + filled, 0, hit_end - filled);
+    expect_all("the seventh total", total_bytes + total_end, UNTOUCHED, sizeof totals - total_end);
+    expect_all("the 1,025th hits", hit_bytes + hit_end, UNTOUCHED, sizeof hits - hit_end);
+    expect_all("work after a report", work, 0, FOLDPLOVER_WORK);
+    expect_all("behind work after a report", work + FOLDPLOVER_WORK, UNTOUCHED, 1);
+}
+
+static void expect_report_refused(const char *what, uint32_t got, int number)
+{
+    const uint8_t left = number == FOLDPLOVER_BUFFER_SHORT ? UNTOUCHED : 0;
+    expect(what, got, REFUSAL(number));
+    expect_all(what, (const uint8_t *)totals, UNTOUCHED, sizeof totals);
+    expect_all(what, (const uint8_t *)hits, UNTOUCHED, sizeof hits);
+    expect_all(what, work, left, FOLDPLOVER_WORK);
+    expect_all(what, work + FOLDPLOVER_WORK, UNTOUCHED, 1);
+}
+
+static void test_report(void)
+{
+    /* 2 + 2 + 2 in the gate, then 1 + 1 and 3 + 1; 1 and the new place + 1, five times. */
+    static const uint64_t all[FOLDPLOVER_TOTALS] = {5, 12, 22, 2, 6, 11};
+    static const uint64_t last[FOLDPLOVER_TOTALS] = {1, 4, 6, 1, 2, 3};
+    static const uint64_t none[FOLDPLOVER_TOTALS] = {0, 0, 0, 0, 0, 0};
+    move_dairy();
+    expect("report", report_over(PAIR_LENGTH, packets, sizeof packets, PLACES), PLACES);
+    expect_report("report", all, PLACES);
+    expect("report: the last packet",
+           report_over(PAIR_LENGTH, packets + 4 * FOLDPLOVER_PACKET, FOLDPLOVER_PACKET, PLACES),
+           PLACES);
+    expect_report("the last packet", last, PLACES);
+    expect("report: no packets", report_over(PAIR_LENGTH, packets, 0, PLACES), PLACES);
+    expect_report("no packets", none, PLACES);
+    forget_report();
+    expect("report: no room to spare",
+           foldplover_report(sheet, PAIR_LENGTH, packets, sizeof packets, earlier,
+                             PLACES * FOLDPLOVER_READING, later, PLACES * FOLDPLOVER_READING,
+                             totals, FOLDPLOVER_TOTALS, hits, FOLDPLOVER_HITS, work,
+                             FOLDPLOVER_WORK),
+           PLACES);
+    expect_report("no room to spare", all, PLACES);
+    expect_dairy("sheet after reports");
+}
+
+/* An own deny of destination 30 drops the last packet, and the one before it tries a rule more. */
+static void test_report_after_edit(void)
+{
+    static const uint64_t edited[FOLDPLOVER_TOTALS] = {5, 13, 23, 1, 13, 23};
+    uint8_t record[RECORD];
+    move_dairy();
+    memcpy(record, full_allow, RECORD);
+    memset(record + 8, 0, 8);
+    record[11] = record[15] = 30;
+    record[26] = 0;
+    expect("insert an own deny", insert(FOLDPLOVER_B, 0, record, RECORD), PAIR_LENGTH + RECORD);
+    expect("report: an own deny",
+           report_over(PAIR_LENGTH + RECORD, packets, sizeof packets, PLACES + 1), PLACES + 1);
+    expect_report("an own deny", edited, PLACES + 1);
+    expect_report_refused("report: the places of before",
+                          report_over(PAIR_LENGTH + RECORD, packets, sizeof packets, PLACES),
+                          FOLDPLOVER_LENGTH_WRONG);
+}
+
+/* Packets of zeros: 3 + 1 tries before, 1 + 5 after. */
+static void test_report_of_many(void)
+{
+    static const uint64_t most[FOLDPLOVER_TOTALS] = {1000000, 4000000, 6000000, 1000000, 2, 3};
+    static uint8_t many[(FOLDPLOVER_MOST_PACKETS + 1) * FOLDPLOVER_PACKET + 1];
+    const size_t end = FOLDPLOVER_MOST_PACKETS * FOLDPLOVER_PACKET;
+    move_dairy();
+    expect("report: 1,000,000 packets", report_over(PAIR_LENGTH, many, end, PLACES), PLACES);
+    expect_report("1,000,000 packets", most, PLACES);
+    expect_report_refused("report: 1,000,000 and a broken one",
+                          report_over(PAIR_LENGTH, many, end + 12, PLACES),
+                          FOLDPLOVER_LENGTH_WRONG);
+    expect_report_refused("report: 1,000,001",
+                          report_over(PAIR_LENGTH, many, end + FOLDPLOVER_PACKET, PLACES),
+                          FOLDPLOVER_COUNT_OUTSIDE);
+    expect_report_refused("report: 1,000,001 and a broken one",
+                          report_over(PAIR_LENGTH, many, sizeof many, PLACES),
+                          FOLDPLOVER_COUNT_OUTSIDE);
+    expect_report_refused("report: 1,000,001, readings of another list",
+                          report_over(PAIR_LENGTH, many, sizeof many, PLACES + 1),
+                          FOLDPLOVER_LENGTH_WRONG);
+}
+
+static void test_report_refusals(void)
+{
+    const size_t whole = PLACES * FOLDPLOVER_READING;
+    move_dairy();
+    expect_report_refused("report: a broken packet",
+                          report_over(PAIR_LENGTH, packets, sizeof packets - 1, PLACES),
+                          FOLDPLOVER_LENGTH_WRONG);
+    expect_report_refused("report: a byte of a packet",
+                          report_over(PAIR_LENGTH, packets, 1, PLACES), FOLDPLOVER_LENGTH_WRONG);
+    expect_report_refused("report: earlier too short",
+                          report(PAIR_LENGTH, packets, sizeof packets, whole - 1, whole),
+                          FOLDPLOVER_LENGTH_WRONG);
+    expect_report_refused("report: earlier too long",
+                          report(PAIR_LENGTH, packets, sizeof packets, whole + 1, whole),
+                          FOLDPLOVER_LENGTH_WRONG);
+    expect_report_refused("report: later too short",
+                          report(PAIR_LENGTH, packets, sizeof packets, whole, whole - 4),
+                          FOLDPLOVER_LENGTH_WRONG);
+    expect_report_refused("report: later too long",
+                          report(PAIR_LENGTH, packets, sizeof packets, whole, whole + 4),
+                          FOLDPLOVER_LENGTH_WRONG);
+    expect_report_refused("report: no readings", report_over(PAIR_LENGTH, packets, 0, 0),
+                          FOLDPLOVER_LENGTH_WRONG);
+    sheet[PAIR_LENGTH - 1] = 7;
+    expect_report_refused("report: another box, no readings",
+                          report_over(PAIR_LENGTH, packets, 1, 0), FOLDPLOVER_GROUPS_DIFFER);
+    sheet[1] = 0;
+    expect_report_refused("report: no gate rule, no readings",
+                          report_over(PAIR_LENGTH, packets, 1, 0), FOLDPLOVER_COUNT_OUTSIDE);
+}
+
+static void test_report_buffers(void)
+{
+    move_dairy();
+    forget_report();
+    expect_report_refused("report: five totals",
+                          foldplover_report(sheet, 0, packets, 1, earlier, 0, later, 0, totals,
+                                            FOLDPLOVER_TOTALS - 1, hits, FOLDPLOVER_HITS, work,
+                                            sizeof work),
+                          FOLDPLOVER_BUFFER_SHORT);
+    expect_report_refused("report: 1,023 hits",
+                          foldplover_report(sheet, 0, packets, 1, earlier, 0, later, 0, totals,
+                                            FOLDPLOVER_TOTALS, hits, FOLDPLOVER_HITS - 1, work,
+                                            sizeof work),
+                          FOLDPLOVER_BUFFER_SHORT);
+    expect_report_refused("report: short work",
+                          foldplover_report(sheet, 0, packets, 1, earlier, 0, later, 0, totals,
+                                            FOLDPLOVER_TOTALS, hits, FOLDPLOVER_HITS, work,
+                                            FOLDPLOVER_WORK - 1),
+                          FOLDPLOVER_BUFFER_SHORT);
+}
+
 static uint32_t remove_rule(size_t used, uint32_t which, size_t place)
 {
     return foldplover_delete(sheet, sizeof sheet, used, which, place, work, sizeof work);
@@ -576,6 +770,11 @@ int main(void)
     test_origin();
     test_origin_after_edits();
     test_origin_refusals();
+    test_report();
+    test_report_after_edit();
+    test_report_of_many();
+    test_report_refusals();
+    test_report_buffers();
     test_edit_refusals();
     test_split_and_join();
     test_record();
