@@ -1,6 +1,7 @@
 //! Drawn rules, pairs and edits: small ranges, so that boxes overlap a lot.
 
 pub mod damage;
+pub mod loads;
 pub mod packets;
 pub mod random;
 pub mod stream;

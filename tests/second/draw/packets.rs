@@ -41,6 +41,12 @@ pub fn any(random: &mut Random) -> Packet {
     limits.map(|highest| random.within(0, highest))
 }
 
+/// What is above its field's highest, at the highest: a packet that can stand in bytes.
+pub fn within_fields(mut packet: Packet) -> Packet {
+    packet.iter_mut().zip(HIGHEST).for_each(|(value, highest)| *value = highest.min(*value));
+    packet
+}
+
 /// Packets that leave the rule's box in one field, at every corner of every field.
 pub fn every_corner(random: &mut Random, rule: &Rule) -> Vec<Packet> {
     let inner = inside(random, &rule.area);

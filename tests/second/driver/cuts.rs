@@ -3,11 +3,9 @@
 
 use crate::draw::touching::{self, TOUCHES};
 use crate::draw::{DrawnEdit, Kind, Pair, Shape};
-use crate::driver::{origins, runs, Driver};
+use crate::driver::{number, origins, reports, runs, Driver};
 use crate::model::before;
 use crate::model::boxes::{self, Action, PacketBox, Rule, FIELDS};
-use crate::model::calls::Answer;
-use crate::model::refusals::Refusal;
 use crate::model::rows::{self, full};
 use crate::model::sheets::{self, PairSheet};
 
@@ -63,10 +61,6 @@ pub fn before_scene(driver: &mut Driver, shape: &Shape, pair: &Pair) {
     hold_to_fresh_move(driver, &edited);
 }
 
-fn number(answer: Answer) -> Option<u32> {
-    answer.err().map(Refusal::number)
-}
-
 /// The calls that check take a sheet exactly where it is, byte for byte, the fresh move of its own
 /// two lists. Else they give 8, or 6 where that move does. The fresh move itself, if it is
 /// accepted, they take.
@@ -80,10 +74,11 @@ fn hold_to_fresh_move(driver: &mut Driver, sheet: &[u8]) -> Option<PairSheet> {
         _ => Some(8),
     };
     let packet = origins::packet_for(&mut driver.random, sheet);
-    let checks =
-        [driver.check(sheet), driver.gate_list(sheet).0, driver.cell_list(sheet).0].map(number);
+    let lists = [driver.gate_list(sheet).0, driver.cell_list(sheet).0].map(number);
+    let others = [driver.check(sheet), reports::on_sound_load(driver, sheet)].map(number);
     let origin = number(driver.origin(&packet, sheet).0);
-    let held = checks == [wanted; 3] && (origin == wanted || wanted.is_none() && origin == Some(5));
+    let held = [lists, others] == [[wanted; 2]; 2]
+        && (origin == wanted || wanted.is_none() && origin == Some(5));
     driver.demand(held, "a sheet and the fresh move of its lists", &[("sheet", sheet)]);
     let fresh = fresh.ok()?;
     let checked = driver.check(fresh).is_ok();

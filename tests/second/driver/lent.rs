@@ -15,9 +15,15 @@ impl Filling {
         Filling { bytes: Random::new(0).bytes(FILLING) }
     }
 
-    pub fn take(&self, random: &mut Random, length: usize) -> &[u8] {
+    /// The same bytes again and again where more are wanted than there are.
+    pub fn take(&self, random: &mut Random, length: usize) -> Vec<u8> {
+        if length >= FILLING {
+            let mut repeated = self.bytes.repeat(length / FILLING + 1);
+            repeated.truncate(length);
+            return repeated;
+        }
         let start = random.index(FILLING - length);
-        &self.bytes[start..start + length]
+        self.bytes[start..start + length].to_vec()
     }
 }
 
@@ -43,7 +49,7 @@ impl Lent {
         random: &mut Random,
     ) -> Lent {
         let start = GUARD + random.index(8);
-        let memory = filling.take(random, start + length + GUARD).to_vec();
+        let memory = filling.take(random, start + length + GUARD);
         let mut lent = Lent { name, given: content.len().min(length), memory, start, length };
         lent.memory[start..start + lent.given].copy_from_slice(&content[..lent.given]);
         let seen = behind.len().min(GUARD);
@@ -60,11 +66,27 @@ impl Lent {
         random: &mut Random,
     ) -> Lent {
         let bytes: Vec<u8> = numbers.iter().flat_map(|number| number.to_ne_bytes()).collect();
-        let before = GUARD + 4 * random.index(4);
-        let mut memory = vec![0xa5; before + bytes.len() + GUARD + align_of::<u32>()];
-        let start = before + memory.as_ptr().wrapping_add(before).align_offset(align_of::<u32>());
-        memory[start..start + bytes.len()].copy_from_slice(&bytes);
-        Lent { name, given: 4 * given, memory, start, length: bytes.len() }
+        Lent::aligned(name, &bytes, 4 * given, align_of::<u32>(), random)
+    }
+
+    /// The same of numbers twice as wide, none of them given for reading.
+    pub fn of_wide_numbers(name: &'static str, numbers: &[u64], random: &mut Random) -> Lent {
+        let bytes: Vec<u8> = numbers.iter().flat_map(|number| number.to_ne_bytes()).collect();
+        Lent::aligned(name, &bytes, 0, align_of::<u64>(), random)
+    }
+
+    fn aligned(
+        name: &'static str,
+        bytes: &[u8],
+        given: usize,
+        alignment: usize,
+        random: &mut Random,
+    ) -> Lent {
+        let before = GUARD + alignment * random.index(4);
+        let mut memory = vec![0xa5; before + bytes.len() + GUARD + alignment];
+        let start = before + memory.as_ptr().wrapping_add(before).align_offset(alignment);
+        memory[start..start + bytes.len()].copy_from_slice(bytes);
+        Lent { name, given, memory, start, length: bytes.len() }
     }
 
     pub fn bytes(&self) -> &[u8] {
@@ -81,6 +103,16 @@ impl Lent {
     }
 
     pub fn set_numbers(&mut self, numbers: &[u32]) {
+        let bytes: Vec<u8> = numbers.iter().flat_map(|number| number.to_ne_bytes()).collect();
+        self.bytes_mut().copy_from_slice(&bytes);
+    }
+
+    pub fn wide_numbers(&self) -> Vec<u64> {
+        let number = |bytes: &[u8]| u64::from_ne_bytes(bytes.try_into().expect("eight bytes"));
+        self.bytes().chunks(8).map(number).collect()
+    }
+
+    pub fn set_wide_numbers(&mut self, numbers: &[u64]) {
         let bytes: Vec<u8> = numbers.iter().flat_map(|number| number.to_ne_bytes()).collect();
         self.bytes_mut().copy_from_slice(&bytes);
     }

@@ -121,6 +121,22 @@ extern "C" {
         work: *mut u8,
         work_len: usize,
     ) -> u32;
+    fn foldplover_report(
+        sheet: *const u8,
+        sheet_len: usize,
+        packets: *const u8,
+        packets_len: usize,
+        earlier: *const u8,
+        earlier_len: usize,
+        later: *const u8,
+        later_len: usize,
+        totals: *mut u64,
+        totals_len: usize,
+        hits: *mut u32,
+        hits_len: usize,
+        work: *mut u8,
+        work_len: usize,
+    ) -> u32;
 }
 
 type Buffer = (*mut u8, usize);
@@ -141,6 +157,7 @@ pub fn by_library(call: Call, words: &[u64], lent: &mut [Lent]) -> u32 {
                 foldplover_lookup_table(src, dst, sport, dport, proto, rules, count)
             }
             (Call::Origin, &[sheet, numbers, work]) => origin(words, sheet, numbers, work),
+            (Call::Report, _) => report(&buffers),
             (Call::Insert | Call::Delete | Call::Replace, _) => edit(call, words, &buffers),
             (Call::Rule, &[record, numbers]) => {
                 foldplover_rule(record.0, record.1, numbers.0.cast(), numbers.1 / 4)
@@ -172,6 +189,18 @@ unsafe fn origin(words: &[u64], sheet: Buffer, numbers: Buffer, work: Buffer) ->
     let (numbers, count) = (numbers.0.cast(), numbers.1 / 4);
     foldplover_origin(
         src, dst, sport, dport, proto, sheet.0, sheet.1, numbers, count, work.0, work.1,
+    )
+}
+
+unsafe fn report(buffers: &[Buffer]) -> u32 {
+    let &[sheet, packets, earlier, later, totals, hits, work] = buffers else {
+        unreachable!("every step lends what its call takes")
+    };
+    let (totals, totals_len) = (totals.0.cast(), totals.1 / 8);
+    let (hits, hits_len) = (hits.0.cast(), hits.1 / 4);
+    foldplover_report(
+        sheet.0, sheet.1, packets.0, packets.1, earlier.0, earlier.1, later.0, later.1, totals,
+        totals_len, hits, hits_len, work.0, work.1,
     )
 }
 

@@ -5,6 +5,7 @@ mod cuts;
 mod lent;
 mod library;
 mod origins;
+mod reports;
 mod runs;
 mod scenes;
 mod step;
@@ -12,19 +13,24 @@ mod tally;
 
 use std::process::exit;
 
+use crate::draw::loads::{DrawnLoad, Input};
 use crate::draw::random::Random;
 use crate::draw::{DrawnEdit, Kind};
 use crate::model::boxes::Packet;
 use crate::model::calls::{self, encode, Answer};
+use crate::model::refusals::Refusal;
+use crate::model::reports::TOTALS;
 use crate::model::sheets;
 use lent::{Filling, Lent};
 use library::by_library;
 use step::{by_model, Call, Step};
-use tally::Tally;
+use tally::{Tally, FROM_GATE, FROM_OWN, OF_NO_PACKETS, OF_PACKETS};
 
 /// From this many cases on, every answer that can occur has to have occurred.
 const ENOUGH_CASES: u64 = 10_000;
 const PROGRESS: u64 = 1_000;
+/// Of a longer input a report of a difference has the first bytes only.
+const MOST_SHOWN: usize = 100_000;
 
 pub struct Driver {
     seed: u64,
@@ -111,10 +117,21 @@ impl Driver {
     }
 
     /// Numbers written by the call, drawn before it; `least` counts numbers.
-    fn numbers(&mut self, least: usize) -> Lent {
+    fn numbers(&mut self, name: &'static str, least: usize) -> Lent {
         let count = self.output_length(least);
         let drawn: Vec<u32> = (0..count).map(|_| self.random.next() as u32).collect();
-        Lent::of_numbers("numbers", &drawn, 0, &mut self.random)
+        Lent::of_numbers(name, &drawn, 0, &mut self.random)
+    }
+
+    fn totals(&mut self) -> Lent {
+        let count = self.output_length(TOTALS);
+        let drawn: Vec<u64> = (0..count).map(|_| self.random.next()).collect();
+        Lent::of_wide_numbers("totals", &drawn, &mut self.random)
+    }
+
+    fn load_input(&mut self, name: &'static str, input: &Input) -> Lent {
+        let Input { bytes, behind } = input;
+        Lent::new(name, bytes, bytes.len(), behind, &self.filling, &mut self.random)
     }
 
     fn work(&mut self) -> Lent {
@@ -130,7 +147,7 @@ impl Driver {
         let answer = by_model(call, &words, &mut expected);
         let got_answer = by_library(call, &words, &mut got);
         if encode(answer) != got_answer || expected != got {
-            self.report(call, &words, &got, &given);
+            self.print_mismatch(call, &words, &got, &given);
             println!("answer expected {} got {got_answer}", encode(answer));
             report_buffers(&expected, &got);
             exit(1);
@@ -139,13 +156,14 @@ impl Driver {
         (answer, got)
     }
 
-    fn report(&self, call: Call, words: &[u64], lent: &[Lent], given: &[Vec<u8>]) {
+    fn print_mismatch(&self, call: Call, words: &[u64], lent: &[Lent], given: &[Vec<u8>]) {
         println!("mismatch in case {} of seed {}", self.case, self.seed);
         println!("again: second drive 1 {} {}", self.seed, self.case);
         println!("call: foldplover_{}", call.name());
         println!("words: {words:?}");
         for (lent, given) in lent.iter().zip(given) {
-            let hex: String = given.iter().map(|byte| format!("{byte:02x}")).collect();
+            let shown = given.iter().take(MOST_SHOWN);
+            let hex: String = shown.map(|byte| format!("{byte:02x}")).collect();
             println!("lent {}, {} bytes, given {} {hex}", lent.name, lent.length(), lent.given);
         }
     }
@@ -163,6 +181,11 @@ impl Driver {
         }
         exit(1);
     }
+}
+
+/// The refusal's number, if it is one.
+fn number(answer: Answer) -> Option<u32> {
+    answer.err().map(Refusal::number)
 }
 
 fn report_buffers(expected: &[Lent], got: &[Lent]) {
@@ -253,14 +276,32 @@ impl Driver {
     /// The origin's three numbers and those behind them come back with the answer.
     pub fn origin(&mut self, packet: &Packet, sheet: &[u8]) -> (Answer, Vec<u32>) {
         let sheet = self.input("sheet", sheet);
-        let lent = vec![sheet, self.numbers(calls::ORIGIN_NUMBERS), self.work()];
+        let lent = vec![sheet, self.numbers("numbers", calls::ORIGIN_NUMBERS), self.work()];
         let step = Step { call: Call::Origin, words: packet.to_vec(), lent };
         let (answer, lent) = self.step(step);
         let numbers = lent[1].numbers();
         if answer.is_ok() {
-            self.tally.count_origin(numbers[0]);
+            let kind = if numbers[0] == 0 { FROM_GATE } else { FROM_OWN };
+            self.tally.count_kind(Call::Origin, kind);
         }
         (answer, numbers)
+    }
+
+    /// The totals and hits with all behind them come back with the answer.
+    pub fn report(&mut self, sheet: &[u8], load: &DrawnLoad) -> (Answer, Vec<u64>, Vec<u32>) {
+        let sheet = self.input("sheet", sheet);
+        let packets = self.load_input("packets", &load.packets);
+        let earlier = self.load_input("earlier", &load.earlier);
+        let later = self.load_input("later", &load.later);
+        let (totals, hits) = (self.totals(), self.numbers("hits", calls::HITS));
+        let lent = vec![sheet, packets, earlier, later, totals, hits, self.work()];
+        let (answer, lent) = self.step(Step { call: Call::Report, words: vec![], lent });
+        let totals = lent[4].wide_numbers();
+        if answer.is_ok() {
+            let kind = if totals[0] == 0 { OF_NO_PACKETS } else { OF_PACKETS };
+            self.tally.count_kind(Call::Report, kind);
+        }
+        (answer, totals, lent[5].numbers())
     }
 
     /// Both lists, if the sheet was split.
@@ -286,7 +327,7 @@ impl Driver {
 
     pub fn rule(&mut self, record: &[u8]) -> (Answer, Vec<u32>) {
         let record = self.input("record", record);
-        let numbers = self.numbers(calls::RULE_NUMBERS);
+        let numbers = self.numbers("numbers", calls::RULE_NUMBERS);
         let step = Step { call: Call::Rule, words: vec![], lent: vec![record, numbers] };
         let (answer, lent) = self.step(step);
         (answer, lent[1].numbers())

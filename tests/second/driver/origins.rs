@@ -18,7 +18,7 @@ pub fn packet_for(random: &mut Random, sheet: &[u8]) -> Packet {
 }
 
 /// Mostly near a box of some group, a gate rule or an own rule.
-fn packet_of(random: &mut Random, pair: &PairSheet) -> Packet {
+pub fn packet_of(random: &mut Random, pair: &PairSheet) -> Packet {
     let area = area_of(random, pair);
     match random.below(8) {
         0 => packets::any(random),
@@ -45,7 +45,7 @@ pub struct Written {
 
 impl Written {
     /// None where a list's buffer was drawn too short.
-    fn of(driver: &mut Driver, sheet: &[u8]) -> Option<Written> {
+    pub fn of(driver: &mut Driver, sheet: &[u8]) -> Option<Written> {
         let end = |from: usize| {
             let count = u16::from_be_bytes([sheet[from], sheet[from + 1]]);
             from + COUNT_BYTES + RECORD_BYTES * usize::from(count)

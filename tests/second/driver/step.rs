@@ -3,6 +3,7 @@
 use crate::driver::lent::Lent;
 use crate::model::boxes::Packet;
 use crate::model::calls::{self, Answer, Change, Edit};
+use crate::model::reports::Load;
 
 #[derive(Clone, Copy, PartialEq, Eq, PartialOrd, Ord, Debug)]
 pub enum Call {
@@ -20,10 +21,11 @@ pub enum Call {
     Record,
     LookupTable,
     Origin,
+    Report,
 }
 
 /// The calls of the surface.
-pub const CALLS: [Call; 14] = [
+pub const CALLS: [Call; 15] = [
     Call::Move,
     Call::Insert,
     Call::Delete,
@@ -38,6 +40,7 @@ pub const CALLS: [Call; 14] = [
     Call::Record,
     Call::LookupTable,
     Call::Origin,
+    Call::Report,
 ];
 
 impl Call {
@@ -57,6 +60,7 @@ impl Call {
             Call::Record => "record",
             Call::LookupTable => "lookup_table",
             Call::Origin => "origin",
+            Call::Report => "report",
         }
     }
 }
@@ -82,6 +86,16 @@ pub fn by_model(call: Call, words: &[u64], lent: &mut [Lent]) -> Answer {
             let packet = packet(words);
             let answer = calls::origin(&packet, sheet.bytes(), &mut values, work.bytes_mut());
             numbers.set_numbers(&values);
+            answer
+        }
+        (Call::Report, [sheet, packets, earlier, later, totals, hits, work]) => {
+            let (packets, earlier, later) = (packets.bytes(), earlier.bytes(), later.bytes());
+            let load = Load { packets, earlier, later };
+            let (mut totalled, mut counted) = (totals.wide_numbers(), hits.numbers());
+            let work = work.bytes_mut();
+            let answer = calls::report(sheet.bytes(), &load, &mut totalled, &mut counted, work);
+            totals.set_wide_numbers(&totalled);
+            hits.set_numbers(&counted);
             answer
         }
         (Call::LookupTable, [table]) => calls::lookup_table(&packet(words), &table.numbers()),

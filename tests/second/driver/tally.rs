@@ -7,14 +7,24 @@ use crate::model::calls::Answer;
 use crate::model::refusals::{Fault, Part, Refusal};
 
 const NUMBERS: u32 = 9;
-const ORIGIN_LISTS: [&str; 2] = ["gate", "own"];
+
+/// Accepted answers that are told apart.
+const KINDS: [(Call, &str); 4] = [
+    (Call::Origin, FROM_GATE),
+    (Call::Origin, FROM_OWN),
+    (Call::Report, OF_PACKETS),
+    (Call::Report, OF_NO_PACKETS),
+];
+pub const FROM_GATE: &str = "from gate";
+pub const FROM_OWN: &str = "from own";
+pub const OF_PACKETS: &str = "of packets";
+pub const OF_NO_PACKETS: &str = "of no packets";
 
 #[derive(Default)]
 pub struct Tally {
     accepted: BTreeMap<Call, u64>,
     refused: BTreeMap<(Call, Refusal), u64>,
-    /// Accepted origins by the number of the list that they name.
-    origins: [u64; ORIGIN_LISTS.len()],
+    kinds: BTreeMap<(Call, &'static str), u64>,
 }
 
 impl Tally {
@@ -27,8 +37,8 @@ impl Tally {
     }
 
     /// Beside the call itself, which is counted as every other is.
-    pub fn count_origin(&mut self, list: u32) {
-        self.origins[list as usize] += 1;
+    pub fn count_kind(&mut self, call: Call, kind: &'static str) {
+        *self.kinds.entry((call, kind)).or_default() += 1;
     }
 
     fn of_number(&self, call: Call, number: u32) -> u64 {
@@ -52,11 +62,11 @@ impl Tally {
         }
     }
 
-    /// The same by ground: which part of what was lent is at fault, and how. An origin is also
-    /// accepted on two grounds.
+    /// The same by ground: which part of what was lent is at fault, and how. Origins and reports
+    /// are also accepted on two grounds each.
     pub fn print_grounds(&self) {
-        for (list, count) in ORIGIN_LISTS.iter().zip(self.origins) {
-            println!("{:12} accepted from {list} {count}", Call::Origin.name());
+        for ((call, kind), count) in &self.kinds {
+            println!("{:12} accepted {kind} {count}", call.name());
         }
         for ((call, refusal), count) in &self.refused {
             let Refusal { part, fault } = refusal;
@@ -77,8 +87,8 @@ impl Tally {
                 }
             }
         }
-        let never = ORIGIN_LISTS.iter().zip(self.origins).filter(|(_, count)| *count == 0);
-        missing.extend(never.map(|(list, _)| format!("origin accepted from {list}")));
+        let never = KINDS.iter().filter(|kind| !self.kinds.contains_key(kind));
+        missing.extend(never.map(|(call, kind)| format!("{} accepted {kind}", call.name())));
         missing
     }
 }
@@ -150,6 +160,12 @@ fn possible(call: Call) -> Vec<Refusal> {
         Call::Origin => {
             let last = grounds(Part::Sheet, &[NoRuleFits]);
             [short(&[Part::Numbers]), checking(), last].concat()
+        }
+        Call::Report => {
+            let readings = [ReadingsMissing, LeftOver];
+            let readings = [grounds(Part::Earlier, &readings), grounds(Part::Later, &readings)];
+            let last = grounds(Part::Packets, &[TooManyPackets, BrokenPacket]);
+            [short(&[Part::Totals, Part::Hits]), checking(), readings.concat(), last].concat()
         }
         Call::Split => [short(&[Part::A, Part::B]), reading_order()].concat(),
         Call::Join => {

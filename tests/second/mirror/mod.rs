@@ -1,14 +1,16 @@
 //! The C surface on top of the model, to try the driver on: as it is, the driver finds nothing;
-//! with FOLDPLOVER_BROKEN set to the name of a fault (see broken.rs, broken_cut.rs and
-//! broken_origin.rs), it has to find that fault.
+//! with FOLDPLOVER_BROKEN set to the name of a fault (see broken.rs, broken_cut.rs,
+//! broken_origin.rs and broken_report.rs), it has to find that fault.
 
 mod broken;
 mod broken_cut;
 mod broken_origin;
+mod broken_report;
 
 use std::slice::{from_raw_parts, from_raw_parts_mut};
 
 use crate::model::calls::{Change, Edit};
+use crate::model::reports::Load;
 use broken::shows;
 
 /// # Safety
@@ -182,6 +184,34 @@ pub unsafe extern "C" fn foldplover_origin(
     let numbers = from_raw_parts_mut(numbers, numbers_len);
     let (sheet, work) = (from_raw_parts(sheet, sheet_len), from_raw_parts_mut(work, work_len));
     broken_origin::origin(packet, sheet, numbers, work)
+}
+
+#[no_mangle]
+pub unsafe extern "C" fn foldplover_report(
+    sheet: *const u8,
+    sheet_len: usize,
+    packets: *const u8,
+    packets_len: usize,
+    earlier: *const u8,
+    earlier_len: usize,
+    later: *const u8,
+    later_len: usize,
+    totals: *mut u64,
+    totals_len: usize,
+    hits: *mut u32,
+    hits_len: usize,
+    work: *mut u8,
+    work_len: usize,
+) -> u32 {
+    let load = Load {
+        packets: from_raw_parts(packets, packets_len),
+        earlier: from_raw_parts(earlier, earlier_len),
+        later: from_raw_parts(later, later_len),
+    };
+    let (totals, hits) =
+        (from_raw_parts_mut(totals, totals_len), from_raw_parts_mut(hits, hits_len));
+    let (sheet, work) = (from_raw_parts(sheet, sheet_len), from_raw_parts_mut(work, work_len));
+    broken_report::report(sheet, load, totals, hits, work)
 }
 
 #[no_mangle]
