@@ -24,6 +24,34 @@ for order in examples/*.order; do
     cmp $out/plan.out "${order%.order}.out"
 done
 
+# What report prints for files in $out/load: a packet that the example's second box drops; readings
+# that are met before the packets, a sheet before the readings; names and words that are not there.
+load=$out/load
+mkdir -p $load
+$out/second move <examples/dairy.order >$load/sheet
+printf '\0\0\0\1\0\0\0\24\0\5\0\120\6' >$load/packets
+printf '\377\377\377\376\0\0\0\7%12s' ' ' >$load/earlier
+printf '\0\0\0\2\0\0\1\7%12s' ' ' >$load/later
+report() {
+    printf "$1" >$out/wanted.txt
+    shift
+    (cd $load && ../second report "$@") >$out/printed.txt
+    cmp $out/printed.txt $out/wanted.txt
+}
+report 'packets 1\nbefore 2\nafter 3\nforwarded 0\ngain 2/3\n0 4\n1 256\n2 0\n3 0\n4 0\n' \
+    sheet packets earlier later
+report 'packets 0\nbefore 0\nafter 0\nforwarded 0\ngain none\n0 0\n1 0\n2 0\n3 0\n4 0\n' \
+    sheet /dev/null later later
+report 'refused 3\n' sheet earlier earlier later
+report 'cannot read .\n' sheet . earlier later
+report 'refused 3\n' sheet . packets later
+report 'refused 3\n' sheet . earlier /dev/null
+report 'refused 2\n' later . packets packets
+report 'cannot read none\n' . none nothing later
+report 'cannot read .\n' . packets earlier later
+report 'usage: report SHEET PACKETS EARLIER LATER\n' sheet packets earlier
+report 'usage: report SHEET PACKETS EARLIER LATER\n' sheet packets earlier later later
+
 drive() {
     $out/second drive "$@" >$out/report.txt 2>$out/progress.txt
 }

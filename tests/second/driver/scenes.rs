@@ -13,11 +13,11 @@ use crate::model::boxes::{Action, PacketBox, Rule, FIELDS, HIGHEST};
 use crate::model::sheets::{self, PairSheet};
 use crate::model::{calls, rows};
 
-/// Of so many cases as meet every answer, this one also has the packets that are too many. Most
-/// faults have been found before it.
+/// The one of every so many cases as have to meet every answer that has too many packets. It takes
+/// long, and most faults are found before it.
 const BIG_CASE: u64 = 500;
 
-/// The first case runs the rows of 01; the others are drawn.
+/// The first case runs the rows of 01; all others but the big one are drawn.
 pub fn play(driver: &mut Driver, case: u64) {
     if case % ENOUGH_CASES == BIG_CASE {
         return reports::big_scene(driver);
