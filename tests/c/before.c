@@ -11,6 +11,7 @@
 #include "expect.h"
 
 #define OLD_LENGTH 9932u   /* 337 boxes */
+#define OLD_PLACES 349u    /* and 12 own rules */
 #define FRESH_LENGTH 5772u /* 177 boxes */
 #define ORDER_LENGTH 1138u /* 30 gate rules, 12 own rules */
 #define OWN_RULES 814u     /* where the first of them stands */
@@ -72,6 +73,24 @@ static void test_calls_that_check(void)
     for (place = 0; place < FOLDPLOVER_ORIGIN; place++) {
         expect("a number of the origin", found[place], UNTOUCHED);
     }
+}
+
+/* With readings of all its places the old sheet is refused too. */
+static void test_report(void)
+{
+    static uint8_t packet[FOLDPLOVER_PACKET];
+    static uint8_t earlier[OLD_PLACES * FOLDPLOVER_READING];
+    static uint8_t later[OLD_PLACES * FOLDPLOVER_READING];
+    static uint64_t totals[FOLDPLOVER_TOTALS];
+    static uint32_t hits[FOLDPLOVER_HITS];
+    memset(totals, UNTOUCHED, sizeof totals);
+    memset(hits, UNTOUCHED, sizeof hits);
+    expect_refused("report",
+                   foldplover_report(old, OLD_LENGTH, packet, sizeof packet, earlier,
+                                     sizeof earlier, later, sizeof later, totals,
+                                     FOLDPLOVER_TOTALS, hits, FOLDPLOVER_HITS, work, sizeof work));
+    expect_all("totals", (const uint8_t *)totals, UNTOUCHED, sizeof totals);
+    expect_all("hits", (const uint8_t *)hits, UNTOUCHED, sizeof hits);
 }
 
 /* The old sheet in a buffer for edits. */
@@ -172,6 +191,7 @@ int main(int count, char **names)
     expect("the sheet's length", (uint32_t)fread(old, 1, sizeof old, file), OLD_LENGTH);
     fclose(file);
     test_calls_that_check();
+    test_report();
     test_move_again();
     test_own_edit();
     test_delete();
