@@ -12,6 +12,7 @@ mod origin;
 mod planner;
 mod plants;
 mod reading;
+mod report;
 mod sheets;
 mod table;
 mod versions;
@@ -22,9 +23,13 @@ fn main() {
     let number = |i: usize| words[i].parse().unwrap();
     match word(0) {
         Some("evaluation") => return evaluation::run(word(1) != Some("untimed")),
-        Some("agree") => return agreeing::run(),
+        Some("agree") => {
+            report::agree();
+            return agreeing::run();
+        }
         Some("names") => return moving::names(),
         Some("moves") => return moving::repeat(number(1), number(2), number(3)),
+        Some("reports") => return report::count(number(1), number(2), number(3)),
         _ => {}
     }
     let cpu = std::fs::read_to_string("/proc/cpuinfo").unwrap_or_default();
@@ -40,5 +45,7 @@ fn main() {
     println!();
     checking::run();
     origin::run();
+    println!();
+    report::run();
     editing::run();
 }

@@ -1,7 +1,7 @@
 // Versions of one thing timed in turn, printed as a table, and a small generator of numbers.
 use std::time::Instant;
 
-const ROUNDS: usize = 401;
+pub const ROUNDS: usize = 401;
 
 pub type Version<F> = (&'static str, F);
 
@@ -28,10 +28,10 @@ pub fn median(mut times: Vec<f64>) -> f64 {
     times[times.len() / 2]
 }
 
-// What each version takes in rounds in which each has its turn; `measure` gives the nanoseconds of one turn.
-pub fn turns<F: Copy>(versions: &[Version<F>], mut measure: impl FnMut(F) -> f64) -> Vec<Vec<f64>> {
+// What each version takes in so many rounds in which each has its turn; `measure` gives the nanoseconds of one turn.
+pub fn turns<F: Copy>(rounds: usize, versions: &[Version<F>], mut measure: impl FnMut(F) -> f64) -> Vec<Vec<f64>> {
     let mut times = vec![Vec::new(); versions.len()];
-    for round in 0..ROUNDS {
+    for round in 0..rounds {
         for turn in 0..versions.len() {
             let v = (round + turn) % versions.len();
             times[v].push(measure(versions[v].1));
@@ -40,9 +40,9 @@ pub fn turns<F: Copy>(versions: &[Version<F>], mut measure: impl FnMut(F) -> f64
     times
 }
 
-// The median of each version over such rounds.
+// The median of each version over many such rounds.
 pub fn medians<F: Copy>(versions: &[Version<F>], measure: impl FnMut(F) -> f64) -> Vec<f64> {
-    turns(versions, measure).into_iter().map(median).collect()
+    turns(ROUNDS, versions, measure).into_iter().map(median).collect()
 }
 
 // The head of a table: the sizes, the versions, and the first version's time over that of each of the others.

@@ -3,7 +3,7 @@
 // the check.
 use crate::inputs::{self, Input, DENY};
 use crate::lookup::{library as lookup, Packet};
-use crate::measure::{head, median, row, timed, turns, Version};
+use crate::measure::{head, median, row, timed, turns, Version, ROUNDS};
 use crate::reading::region_at;
 use crate::sheets::{boxes, order_of, two, Region, BOX, FIELDS, RECORD};
 use crate::versions::{Desk, Found, Planner};
@@ -83,7 +83,7 @@ fn measure(input: &Input, list: usize) -> ([usize; 4], Vec<Vec<f64>>) {
     let found = desk.origin(&packet, used);
     assert!(found.0 == lookup(&packet, &cell) && found == search(&packet, &desk.sheet[..used]), "{}: {found:?}", input.name);
     assert!(if list == 0 { found.1[0] == 0 } else { found.1 == [1, own as u32 - 1, 0] }, "{}: {found:?}", input.name);
-    let times = turns(&WAYS, |way| {
+    let times = turns(ROUNDS, &WAYS, |way| {
         desk.check(Planner::Library, used);
         let clock = timed(1, || {});
         let time = timed(1, || {

@@ -1,7 +1,7 @@
 // The three planners under one shape: the library, plain C and safe Rust.
 use crate::lookup::Packet;
 use crate::planner;
-use crate::sheets::{CELL_LIST, SHEET, WORK};
+use crate::sheets::{CELL_LIST, MOST, SHEET, WORK};
 
 #[derive(Clone, Copy, PartialEq, Eq)]
 pub enum Change {
@@ -57,6 +57,22 @@ extern "C" {
         sheet_len: usize,
         numbers: *mut u32,
         numbers_len: usize,
+        work: *mut u8,
+        work_len: usize,
+    ) -> u32;
+    fn foldplover_report(
+        sheet: *const u8,
+        sheet_len: usize,
+        packets: *const u8,
+        packets_len: usize,
+        earlier: *const u8,
+        earlier_len: usize,
+        later: *const u8,
+        later_len: usize,
+        totals: *mut u64,
+        totals_len: usize,
+        hits: *mut u32,
+        hits_len: usize,
         work: *mut u8,
         work_len: usize,
     ) -> u32;
@@ -119,6 +135,13 @@ pub const PLANNERS: [(&str, Planner); 3] =
 // Origin's answer and its three numbers: the list, the rule's place in it and the box's number in its group.
 pub type Found = (u32, [u32; 3]);
 
+// A report's totals (packets, tries before and after, packets forwarded, the gain's two numbers) and its hits at each place.
+#[derive(PartialEq, Eq)]
+pub struct Report {
+    pub totals: [u64; 6],
+    pub hits: [u32; MOST],
+}
+
 // The buffers that the calls are lent. Only the library has a work buffer lent; the others keep their own.
 pub struct Desk {
     pub sheet: Vec<u8>,
@@ -165,6 +188,31 @@ impl Desk {
         let (np, wp) = (n.as_mut_ptr(), w.as_mut_ptr());
         let answer = unsafe { foldplover_origin(p[0], p[1], p[2], p[3], p[4], s.as_ptr(), s.len(), np, n.len(), wp, w.len()) };
         (answer, n)
+    }
+
+    pub fn report(&mut self, used: usize, packets: &[u8], earlier: &[u8], later: &[u8]) -> Report {
+        let (s, w, mut report) = (&self.sheet[..used], &mut self.work, Report { totals: [0; 6], hits: [0; MOST] });
+        let (t, h) = (&mut report.totals, &mut report.hits);
+        let places = unsafe {
+            foldplover_report(
+                s.as_ptr(),
+                s.len(),
+                packets.as_ptr(),
+                packets.len(),
+                earlier.as_ptr(),
+                earlier.len(),
+                later.as_ptr(),
+                later.len(),
+                t.as_mut_ptr(),
+                t.len(),
+                h.as_mut_ptr(),
+                h.len(),
+                w.as_mut_ptr(),
+                w.len(),
+            )
+        };
+        assert!(places as usize == earlier.len() / 4, "{places}");
+        report
     }
 
     pub fn edit(&mut self, planner: Planner, used: usize, e: &Edit) -> u32 {
