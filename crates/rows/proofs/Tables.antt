@@ -1,0 +1,189 @@
+-- The table of a sheet that passes check: what is written is a table, and each list has its rows there. Assumes nothing.
+use mathlib.Core.Path.{_≡_, refl, ap, sym, subst, _∙_}
+use mathlib.Core.List.{List, [], _∷_, _++_, append-assoc}
+use Prim.Native.Nat.{ℕ, suc, _+_, _*_, _≤_}
+use native.Mathlib.Omega.{arith}
+use lib.ListN.{length, drop, length-append}
+use lib.Seq.{sets, drop-drop, take-at, drop-at, length-sets}
+use Rattle.lists.specs.Lists.{Each}
+use Rattle.lists.proofs.Lists.{append-none, sets-append, sets-parts, each-append, each-imp, each-take, each-drop, each-every}
+use Rattle.policy.specs.Fields.{highest, countSize, recordSize}
+use Rattle.policy.specs.Ranges.{Region, proper}
+use Rattle.policy.specs.Rules.{Rule, Proper}
+use Rattle.policy.specs.Refusals.{rulesRefusal}
+use Rattle.policy.specs.Move.{Pair, together}
+use Rattle.policy.proofs.Moves.{rulesRefusal-cons, rule-proper}
+use Rattle.policy.proofs.Origins.{regions}
+use Rattle.wire.specs.Records.{boxIn, eachIn}
+use Rattle.wire.proofs.Items.{bytes-append}
+use Rattle.wire.proofs.Records.{rulesIn-length}
+use Rattle.sheet.specs.Steps.{groupsFrom, pairAt}
+use Rattle.sheet.specs.declared.PairLayout.{PairLayout}
+use Rattle.sheet.proofs.Pairs.{ProperGroup}
+use Rattle.origins.specs.Steps.{Checked}
+use Rattle.origins.proofs.Boxes.{record-regions}
+use Rattle.origins.proofs.Deciding.{good, gate-clean, own-clean}
+use Rattle.rows.specs.Steps.{rowSize, tableSize, rowNumbers, rowsNumbers, rowIn, rowsIn, allBoxes, Tabled}
+use Rattle.rows.proofs.Rows.{rows-length, rows-back}
+
+-- Items that are read as a list, and a stretch of them.
+module _ {A : Type 0} (size : ℕ) (read : List ℕ → A) where
+  front-read : (g y : List A) (t : List ℕ) → eachIn size read (length (g ++ y)) t ≡ g ++ y → eachIn size read (length g) t ≡ g
+  unfolding eachIn
+  front-read [] y t e = refl
+  front-read (b ∷ g) y t e =
+      let h : read t ≡ b = cc in
+      let r : eachIn size read (length (g ++ y)) (drop size t) ≡ g ++ y = cc in
+      rw (h, front-read g y (drop size t) r)
+
+  stretch-read : (x g y : List A) (t : List ℕ) → eachIn size read (length (x ++ (g ++ y))) t ≡ x ++ (g ++ y) → eachIn size read (length g) (drop (size * length x) t) ≡ g
+  unfolding eachIn
+  stretch-read [] g y t e =
+      let z : size * 0 ≡ 0 = omega arith in
+      rw z (front-read g y t e)
+  stretch-read (b ∷ x) g y t e =
+      let r : eachIn size read (length (x ++ (g ++ y))) (drop size t) ≡ x ++ (g ++ y) = cc in
+      let z : size * suc (length x) ≡ size + size * length x = omega arith in
+      rw (z, ← drop-drop (size * length x) size t) (stretch-read x g y (drop size t) r)
+
+each-stretch : {A : Type 0} (P : A → Type 0) (x g y : List A) → Each P (x ++ (g ++ y)) → Each P g
+each-stretch P x g y h =
+    rw (drop-at x (g ++ y) (length x) refl, take-at g y (length g) refl) at (each-take P (length g) (drop (length x) (x ++ (g ++ y))) (each-drop P (length x) (x ++ (g ++ y)) h))
+
+together-each : (P : Region → Type 0) (gs : List (List Region)) → Each (Each P) gs → Each P (together gs)
+unfolding Each together
+together-each P [] h = tt
+together-each P (g ∷ gs) h = each-append P g (together gs) (h .0) (together-each P gs (h .1))
+
+-- The boxes of rules of which none is bad are proper.
+rules-proper : (rs : List Rule) → rulesRefusal rs ≡ 0 → Each Proper (regions rs)
+unfolding Each
+rules-proper [] h = tt
+rules-proper (r ∷ rs) h = let f = rulesRefusal-cons r rs h in (rule-proper r (f .0), rules-proper rs (f .1))
+
+regions-length : (rs : List Rule) → length (regions rs) ≡ length rs
+regions-length [] = refl
+regions-length (r ∷ rs) = ap suc (regions-length rs)
+
+-- Three runs of stores, each where the one before it ends.
+stored-three : (t a b d u v w : List ℕ) (m n : ℕ) → length a ≡ m → length b ≡ n → u ≡ sets t 0 a → v ≡ sets u m b → w ≡ sets v (m + n) d → w ≡ sets t 0 (a ++ (b ++ d))
+stored-three t a b d u v w m n la lb eu ev ew =
+    let x : 0 + length a ≡ m = omega arith in
+    ew ∙ rw (ev, eu) (sym (sets-append t 0 a (b ++ d) ∙ (sets-append (sets t 0 a) (0 + length a) b d ∙ rw (x, lb))))
+
+-- So many rows from a number of the table on, and the boxes that they are.
+pub record Stretch (table : List ℕ) (from n : ℕ) (boxes : List Region) : Type 0 where
+  pub there : from + rowSize * n ≤ length table
+  pub rows : rowsIn n (drop from table) ≡ boxes
+  pub clean : Each Proper (rowsIn n (drop from table))
+
+module _ {s : List ℕ} {l : PairLayout} (c : Checked s l) where
+  abbrev q : Pair
+  q = pairAt l s
+
+  abbrev gate : List Region
+  gate = regions (q .order .gate)
+
+  abbrev boxes : List Region
+  boxes = together (q .groups)
+
+  abbrev own : List Region
+  own = regions (q .order .own)
+
+  gate-proper : Each Proper gate
+  gate-proper = rules-proper (q .order .gate) (gate-clean s q (c .checks) .0)
+
+  own-proper : Each Proper own
+  own-proper = rules-proper (q .order .own) (own-clean s q (c .checks) .0)
+
+  pub groups-proper : Each (Each Proper) (q .groups)
+  groups-proper = each-imp ProperGroup (Each Proper) (q .groups) (λ g h. each-every (proper highest) Proper (λ b e. e) g h) (good s q (c .checks) .groups .boxes)
+
+  boxes-proper : Each Proper boxes
+  boxes-proper = together-each Proper (q .groups) groups-proper
+
+  all-proper : Each Proper (allBoxes q)
+  unfolding allBoxes
+  all-proper = each-append Proper gate (boxes ++ own) gate-proper (each-append Proper boxes own boxes-proper own-proper)
+
+  -- A's boxes and B's, in the sheet's bytes.
+  pub gate-boxes : gate ≡ eachIn recordSize boxIn (l .order .gate) (drop countSize s)
+  gate-boxes = record-regions (l .order .gate) (drop countSize s)
+
+  pub own-boxes : own ≡ eachIn recordSize boxIn (l .order .own) (drop (l .order .middle + countSize) s)
+  own-boxes =
+      record-regions (l .order .own) (drop countSize (drop (l .order .middle) s))
+      ∙ ap (eachIn recordSize boxIn (l .order .own)) (drop-drop countSize (l .order .middle) s)
+
+  pub gate-bytes-proper : Each Proper (eachIn recordSize boxIn (l .order .gate) (drop countSize s))
+  gate-bytes-proper = subst (Each Proper) gate-boxes gate-proper
+
+  pub own-bytes-proper : Each Proper (eachIn recordSize boxIn (l .order .own) (drop (l .order .middle + countSize) s))
+  own-bytes-proper = subst (Each Proper) own-boxes own-proper
+
+  gate-length : length gate ≡ l .order .gate
+  gate-length = regions-length (q .order .gate) ∙ rulesIn-length (l .order .gate) (drop countSize s)
+
+  own-length : length own ≡ l .order .own
+  own-length = regions-length (q .order .own) ∙ rulesIn-length (l .order .own) (drop countSize (drop (l .order .middle) s))
+
+  boxes-length : length boxes ≡ l .boxes
+  boxes-length = sym (c .laid .boxesAre)
+
+  all-length : length (allBoxes q) ≡ l .order .gate + (l .boxes + l .order .own)
+  unfolding allBoxes
+  all-length = rw (length-append gate (boxes ++ own), length-append boxes own, gate-length, boxes-length, own-length)
+
+  all-numbers : rowsNumbers (allBoxes q) ≡ rowsNumbers gate ++ (rowsNumbers boxes ++ rowsNumbers own)
+  unfolding allBoxes
+  all-numbers = bytes-append rowNumbers gate (boxes ++ own) ∙ ap (λ (x : List ℕ). rowsNumbers gate ++ x) (bytes-append rowNumbers boxes own)
+
+  -- What is written.
+  module _ (t : List ℕ) (room : tableSize ≤ length t) where
+    all-inside : rowSize * length (allBoxes q) ≤ length t
+    all-inside = omega (arith, all-length, c .laid .lists .gateLimit, c .laid .totalLimit)
+
+    pub table-put : (u v w : List ℕ) → u ≡ sets t 0 (rowsNumbers (eachIn recordSize boxIn (l .order .gate) (drop countSize s)))
+        → v ≡ sets u (rowSize * l .order .gate) (rowsNumbers (together (groupsFrom (l .groups) (drop (l .from) s))))
+        → w ≡ sets v (rowSize * (l .order .gate + l .boxes)) (rowsNumbers (eachIn recordSize boxIn (l .order .own) (drop (l .order .middle + countSize) s)))
+        → Tabled s l w
+    table-put u v w eu ev ew =
+        let a : length (rowsNumbers gate) ≡ rowSize * l .order .gate = rows-length gate gate-proper ∙ ap (λ (n : ℕ). rowSize * n) gate-length in
+        let b : length (rowsNumbers boxes) ≡ rowSize * l .boxes = rows-length boxes boxes-proper ∙ ap (λ (n : ℕ). rowSize * n) boxes-length in
+        let k : rowSize * (l .order .gate + l .boxes) ≡ rowSize * l .order .gate + rowSize * l .boxes = omega arith in
+        let n : List ℕ = rowsNumbers (allBoxes q) in
+        let is : w ≡ sets t 0 n =
+        stored-three t (rowsNumbers gate) (rowsNumbers boxes) (rowsNumbers own) u v w (rowSize * l .order .gate) (rowSize * l .boxes) a b
+        (eu ∙ ap (λ (x : List Region). sets t 0 (rowsNumbers x)) (sym gate-boxes)) ev
+        (ew ∙ (ap (λ (m : ℕ). sets v m (rowsNumbers (eachIn recordSize boxIn (l .order .own) (drop (l .order .middle + countSize) s)))) k
+        ∙ ap (λ (x : List Region). sets v (rowSize * l .order .gate + rowSize * l .boxes) (rowsNumbers x)) (sym own-boxes)))
+        ∙ ap (sets t 0) (sym all-numbers) in
+        let z = rows-length (allBoxes q) all-proper in
+        let f = sets-parts t 0 n (omega (arith, all-inside)) in
+        let m = ap length is ∙ length-sets t 0 n in
+        record {
+          long = omega (arith, all-inside);
+          rows = subst (λ (x : List ℕ). rowsIn (length (allBoxes q)) x ≡ allBoxes q) (sym (is ∙ f)) (rows-back (allBoxes q) (drop (0 + length n) t) all-proper);
+        }
+
+  -- What is read.
+  module _ {table : List ℕ} (t : Tabled s l table) where
+    stretch : (x g y : List Region) → allBoxes q ≡ x ++ (g ++ y) → (k n : ℕ) → length x ≡ k → length g ≡ n → Stretch table (rowSize * k) n g
+    stretch x g y e k n ek en =
+        let f = subst (λ (b : List Region). rowsIn (length b) table ≡ b) e (t .rows) in
+        let r : rowsIn n (drop (rowSize * k) table) ≡ g = rw (← ek, ← en) (stretch-read rowSize rowIn x g y table f) in
+        record {
+          there = omega (arith, t .long, ap length e, length-append x (g ++ y), length-append g y);
+          rows = r;
+          clean = subst (Each Proper) (sym r) (each-stretch Proper x g y (subst (Each Proper) e all-proper));
+        }
+
+    pub gate-stretch : Stretch table 0 (l .order .gate) gate
+    unfolding allBoxes
+    gate-stretch = stretch [] gate (boxes ++ own) refl 0 (l .order .gate) refl gate-length
+
+    pub own-stretch : Stretch table (rowSize * (l .order .gate + l .boxes)) (l .order .own) own
+    unfolding allBoxes
+    own-stretch =
+        stretch (gate ++ boxes) own [] (rw (append-none own) (sym (append-assoc gate boxes own))) (l .order .gate + l .boxes) (l .order .own)
+        (rw (length-append gate boxes, gate-length, boxes-length)) own-length
