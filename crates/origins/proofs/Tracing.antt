@@ -45,7 +45,7 @@ run-next k s count e =
 run-first : (k : ℕ) (s : List ℕ) → runSize (suc k) s ≡ groupSize (countIn s) + runSize k (drop (groupSize (countIn s)) s)
 run-first k s = let e = boxes-cons k s in omega arith
 
-group-at : (k n : ℕ) (s : List ℕ) → k < n → getD (groupsFrom n s) k [] ≡ groupBoxes (drop (runSize k s) s)
+pub group-at : (k n : ℕ) (s : List ℕ) → k < n → getD (groupsFrom n s) k [] ≡ groupBoxes (drop (runSize k s) s)
 unfolding groupsFrom together
 group-at k zero s h = absurd (omega arith)
 group-at zero (suc n) s h = refl

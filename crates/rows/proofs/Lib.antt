@@ -1,3 +1,4 @@
 pub mod Rows
 pub mod Turns
+pub mod Fronts
 pub mod Tables

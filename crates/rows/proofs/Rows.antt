@@ -31,7 +31,7 @@ highest-small : (k : ℕ) → k < length highest → getD highest k 0 ≤ 429496
 unfolding highest every
 highest-small k h = leb-true (getD highest k 0) 4294967295 (every-at isSmall highest 0 refl k h)
 
-pub highest-length : length highest ≡ fields
+highest-length : length highest ≡ fields
 unfolding highest
 highest-length = refl
 

@@ -2,21 +2,24 @@
 use mathlib.Core.Path.{_≡_}
 use mathlib.Core.List.{List, [], _∷_, _++_, map}
 use Prim.Native.Nat.{ℕ, _+_, _*_, _-_, _≤_}
-use lib.ListN.{length}
+use lib.ListN.{length, getD, take}
 use Rattle.policy.specs.Fields.{fields, highest, limits}
 use Rattle.policy.specs.Ranges.{range, Region}
-use Rattle.policy.specs.Rules.{Rule}
+use Rattle.policy.specs.Rules.{Rule, denies}
 use Rattle.policy.specs.Move.{Pair, together}
 use Rattle.wire.specs.Records.{eachBytes, eachIn}
 use Rattle.sheet.specs.Steps.{pairAt}
 use Rattle.sheet.specs.declared.PairLayout.{PairLayout}
 
--- The numbers of a row, and those of a table that has room for A and for the cell list.
+-- The numbers of a row. A table has room for those of A and of the cell list; behind them stands a front for each rule of A and one more.
 abbrev pub rowSize : ℕ
 rowSize = 2 * fields
 
+abbrev pub frontsAt : ℕ
+frontsAt = rowSize * (limits .gate + limits .total)
+
 abbrev pub tableSize : ℕ
-tableSize = rowSize * (limits .gate + limits .total)
+tableSize = frontsAt + (limits .gate + 1)
 
 -- A row written: for each field its low, and how far its high lies above it.
 unfoldable pub rowNumbers : Region → List ℕ
@@ -47,7 +50,15 @@ boxOf r = r .region
 unfoldable pub allBoxes : Pair → List Region
 allBoxes q = map boxOf (q .order .gate) ++ (together (q .groups) ++ map boxOf (q .order .own))
 
--- A table's first rows are the boxes of a sheet.
+-- A front: how many boxes stand before the group of the rule at a place of A; at A's end, how many boxes there are.
+abbrev pub frontOf : Pair → ℕ → ℕ
+frontOf q j = length (together (take (denies (take j (q .order .gate))) (q .groups)))
+
+abbrev pub Fronts : Pair → List ℕ → Type 0
+Fronts q table = (j : ℕ) → j ≤ length (q .order .gate) → getD table (frontsAt + j) 0 ≡ frontOf q j
+
+-- A table's first rows are the boxes of a sheet, and its fronts are there.
 pub record Tabled (s : List ℕ) (l : PairLayout) (table : List ℕ) : Type 0 where
-  pub long : rowSize * length (allBoxes (pairAt l s)) ≤ length table
+  pub long : tableSize ≤ length table
   pub rows : rowsIn (length (allBoxes (pairAt l s))) table ≡ allBoxes (pairAt l s)
+  pub fronts : Fronts (pairAt l s) table

@@ -11,8 +11,8 @@ use policy::RECORD_BYTES;
 use policy::TOTAL_MOST;
 use sheet::PairLayout;
 ghost use mathlib.Core.Path.{_≡_};
-ghost use Prim.Native.Nat.{_+_, _*_, _≤_};
-ghost use lib.ListN.{length, drop};
+ghost use Prim.Native.Nat.{_+_, _*_, _≤_, _<_};
+ghost use lib.ListN.{length, getD, drop};
 ghost use lib.Seq.{sets};
 ghost use Rattle.lists.specs.Lists.{Each};
 ghost use Rattle.policy.specs.Fields.{boxSize};
@@ -24,13 +24,17 @@ ghost use Rattle.wire.specs.Records.{boxIn, eachIn};
 ghost use Rattle.sheet.specs.Steps.{pairAt, groupsFrom, boxCount};
 ghost use Rattle.kept.specs.Steps.{runSize};
 ghost use Rattle.origins.specs.Steps.{Checked, Traced};
-ghost use Rattle.rows.specs.Steps.{rowSize, tableSize, rowNumbers, rowsNumbers, rowIn, rowsIn, Tabled};
+ghost use Rattle.rows.specs.Steps.{rowSize, tableSize, rowNumbers, rowsNumbers, rowIn, rowsIn, frontsAt, Fronts, Tabled};
 
 // The numbers of a row: for each field its low, and how far its high lies above it.
 pub const ROW_NUMBERS: usize = 2 * FIELDS;
 
-// Room for the rows of A and of the cell list.
-pub const TABLE_NUMBERS: usize = ROW_NUMBERS * (GATE_MOST + TOTAL_MOST);
+// Behind the room for the rows of A and of the cell list stand the fronts: for each rule of A how many boxes stand before its group, and
+// at A's end how many there are.
+const FRONTS: usize = ROW_NUMBERS * (GATE_MOST + TOTAL_MOST);
+
+// Room for the rows and the fronts.
+pub const TABLE_NUMBERS: usize = FRONTS + (GATE_MOST + 1);
 
 // The box of the row that begins at `at`. Where a packet is tried in it each low is taken from its high again, and the compiler compares
 // with the row's own number.
@@ -101,13 +105,35 @@ fn put_groups(table: &mut [u32], at: usize, sheet: &[u8], from: usize, n: usize)
     }
 }
 
-// The rows of a sheet's rules: those of A, then those of the cell list.
+// The fronts of a sheet's gate rules.
+fn put_fronts(table: &mut [u32], sheet: &[u8], layout: PairLayout)
+    requires { ⌜ Checked (now sheet) layout × (tableSize ≤ length (now table)) ⌝ }
+    ensures { λ r. ⌜ Fronts (pairAt layout (now (sheet .entry))) (now (table .exit)) ⌝ }
+{
+    let mut boxes: usize = 0;
+    let mut start = layout.from;
+    let mut k: usize = 0;
+    while k < layout.order.gate {
+        table[FRONTS + k] = boxes as u32;
+        let rule = wire::rule_at(sheet, COUNT_BYTES + RECORD_BYTES * k);
+        if !rule.is_allow() {
+            let count = wire::count_at(sheet, start);
+            boxes += count;
+            start = start + COUNT_BYTES + BOX_BYTES * count;
+        }
+        k += 1;
+    }
+    table[FRONTS + k] = boxes as u32;
+}
+
+// The table of a sheet: its fronts, the rows of A, and those of the cell list.
 pub fn put_table(sheet: &[u8], layout: PairLayout, table: &mut [u32])
     requires { ⌜ Checked (now sheet) layout × (tableSize ≤ length (now table)) ⌝ }
     ensures { λ r. ⌜ Tabled (now (sheet .entry)) layout (now (table .exit)) ⌝ }
 {
     let gate = layout.order.gate;
     let boxes = layout.boxes;
+    put_fronts(table, sheet, layout);
     put_rows(table, 0, sheet, COUNT_BYTES, RECORD_BYTES, gate);
     put_groups(table, ROW_NUMBERS * gate, sheet, layout.from, layout.groups);
     put_rows(
@@ -135,6 +161,32 @@ fn first_row(p: Packet, table: &[u32], at: usize, n: usize) -> usize
         left -= 1;
     }
     n
+}
+
+// The front of the rule at a place of A.
+fn front_at(table: &[u32], rule: usize) -> usize
+    requires { ⌜ frontsAt + rule < length (now table) ⌝ }
+    ensures { λ r. ⌜ r ≡ getD (now (table .entry)) (frontsAt + rule) 0 ⌝ }
+{
+    table[FRONTS + rule] as usize
+}
+
+// The packet that the deny rule at a place of A drops: a box of its group has it. The sheet is what the table stands for; nothing of it is
+// read.
+fn trace_gate(p: Packet, sheet: &[u8], layout: PairLayout, table: &[u32], rule: usize) -> Trace
+    requires { ⌜ Checked (now sheet) layout × Tabled (now sheet) layout (now table) × (first (packetOf p) (pairAt layout (now sheet) .order .gate) ≡ found rule 0) ⌝ }
+    ensures { λ r. ⌜ Traced (packetOf p) (pairAt layout (now (sheet .entry))) r ⌝ }
+{
+    let gate = layout.order.gate;
+    let front = front_at(table, rule);
+    let count = front_at(table, rule + 1) - front;
+    let number = first_row(p, table, ROW_NUMBERS * (gate + front), count);
+    let place = front + number;
+    Trace::Gate {
+        rule,
+        number,
+        place,
+    }
 }
 
 // The packet that passed the rule at a place of A: an own rule has it.
@@ -176,5 +228,5 @@ pub fn trace_row(p: Packet, sheet: &[u8], layout: PairLayout, table: &[u32]) -> 
     if record.is_allow() {
         return trace_own(p, sheet, layout, table, rule);
     }
-    origins::trace_packet(p, sheet, layout)
+    trace_gate(p, sheet, layout, table, rule)
 }

@@ -14,7 +14,7 @@ use Rattle.wire.specs.Records.{boxIn, eachIn}
 use Rattle.sheet.specs.Steps.{pairAt}
 use Rattle.sheet.specs.declared.PairLayout.{PairLayout}
 use Rattle.origins.specs.Steps.{Checked}
-use Rattle.origins.proofs.Tracing.{nowhere, gate-here, gate-decides, gate-allows}
+use Rattle.origins.proofs.Tracing.{nowhere, gate-here, gate-decides, gate-allows, gate-drops}
 use Rattle.rows.proofs.Tables.{gate-boxes, gate-stretch}
 use Rattle.rows.proofs.trace_row.Statement.{statement}
 use Rattle.rows.proofs.trace_row.Tie as tie
@@ -88,8 +88,11 @@ trace-own-requires c κs =
 returns-2 : tie.Need-returns-2
 returns-2 c = search needs
 
-trace-packet-requires : tie.Need-trace-packet-requires
-trace-packet-requires c κs = search needs
+trace-gate-requires : tie.Need-trace-gate-requires
+trace-gate-requires c κs =
+    let k = c .before .before in
+    let a = searched k in
+    (checked a, start a .pre .1, gate-drops (checked a) (packet a) (rule a) (ruleOf (k .rule-at .result)) (decided k) (c .before .is-allow .ensures) (c .if2 .left))
 
 returns-3 : tie.Need-returns-3
 returns-3 c = search needs
@@ -106,5 +109,5 @@ trace-row-spec =
     is-allow-requires
     trace-own-requires
     returns-2
-    trace-packet-requires
+    trace-gate-requires
     returns-3)
