@@ -129,13 +129,13 @@ pub brief-own : {t : Trace} (passes rule place action : ℕ) → t ≡ Own passe
 unfolding Brief
 brief-own passes rule place action e h = rw e at h
 
-pub gate-load : (rule number place : ℕ) → load 1 (rule + 1) (place + 2) 0 ≡ traceLoad (Gate rule number place)
+pub gate-load : (rule number place : ℕ) → load 1 (rule + 1) (1 + (place + 1)) 0 ≡ traceLoad (Gate rule number place)
 unfolding traceLoad
-gate-load rule number place = load-same refl refl (omega arith) refl
+gate-load rule number place = refl
 
-pub own-load : (passes rule place action : ℕ) → load 1 (passes + rule + 2) (place + 2) action ≡ traceLoad (Own passes rule place action)
+pub own-load : (passes rule place action : ℕ) → load 1 (passes + rule + 2) (1 + (place + 1)) action ≡ traceLoad (Own passes rule place action)
 unfolding traceLoad
-own-load passes rule place action = load-same refl (omega arith) (omega arith) refl
+own-load passes rule place action = load-same refl (omega arith) refl refl
 
 pub nowhere-load : load 1 0 0 0 ≡ traceLoad Nowhere
 unfolding traceLoad

@@ -10,9 +10,11 @@ ghost use mathlib.Core.Path.{_≡_};
 ghost use mathlib.Core.List.{[], _∷_};
 ghost use Prim.Native.Nat.{_+_, _*_, _≤_, _<_};
 ghost use lib.ListN.{length, drop};
+ghost use Rattle.policy.specs.Fields.{limits};
 ghost use Rattle.policy.specs.Values.{packetOf};
 ghost use Rattle.sheet.specs.Steps.{pairAt};
 ghost use Rattle.origins.specs.Steps.{Checked};
+ghost use Rattle.rows.specs.Steps.{Tabled};
 ghost use Rattle.load.specs.Load.{loadOf, noLoad, plus, common, gainOf, hitsBetween};
 ghost use Rattle.load.specs.Packets.{packetSize, packetIn, packetsFrom, packetsMost, addedTo};
 ghost use Rattle.load.specs.Steps.{loadValue, gainValue, traceLoad, Brief, Bounded, addedHeard, OfSum};
@@ -117,7 +119,15 @@ fn packet_at(s: &[u8], at: usize) -> Packet
     Packet { values }
 }
 
-// The load of a traced packet. The rule of A that passed it was tried too, and after the move the gate's one rule.
+// The rules that the loaded lists try for a packet that the cell list decides there: the gate's one, and those up to the place.
+fn tries_to(place: usize) -> u64
+    requires { ⌜ place < limits .total ⌝ }
+    ensures { λ r. ⌜ r ≡ 1 + (place + 1) ⌝ }
+{
+    (place + 2) as u64
+}
+
+// The load of a traced packet. Before the move the cell tries no rule for a packet that the gate drops.
 fn load_traced(t: Trace) -> Load
     requires { ⌜ Brief t ⌝ }
     ensures { λ r. ⌜ loadValue r ≡ traceLoad t ⌝ }
@@ -130,7 +140,7 @@ fn load_traced(t: Trace) -> Load
         } => Load {
             packets: 1,
             before: (rule + 1) as u64,
-            after: (place + 2) as u64,
+            after: tries_to(place),
             forwarded: 0,
         },
         Trace::Own {
@@ -141,7 +151,7 @@ fn load_traced(t: Trace) -> Load
         } => Load {
             packets: 1,
             before: (passed + rule + 2) as u64,
-            after: (place + 2) as u64,
+            after: tries_to(place),
             forwarded: action as u64,
         },
         Trace::Nowhere => Load {
@@ -153,32 +163,40 @@ fn load_traced(t: Trace) -> Load
     }
 }
 
-fn load_one(p: Packet, sheet: &[u8], layout: PairLayout) -> Load
-    requires { ⌜ Checked (now sheet) layout ⌝ }
+fn load_one(p: Packet, sheet: &[u8], layout: PairLayout, table: &[u32]) -> Load
+    requires { ⌜ Checked (now sheet) layout × Tabled (now sheet) layout (now table) ⌝ }
     ensures { λ r. ⌜ (loadValue r ≡ loadOf (pairAt layout (now (sheet .entry))) (packetOf p ∷ [])) × Bounded (loadValue r) ⌝ }
 {
-    load_traced(origins::trace_packet(p, sheet, layout))
+    load_traced(rows::trace_row(p, sheet, layout, table))
 }
 
 // The load of n packets more.
-fn add_packets(t: Load, packets: &[u8], n: usize, sheet: &[u8], layout: PairLayout) -> Load
-    requires { ⌜ Checked (now sheet) layout × (packetSize * n ≤ length (now packets)) × Bounded (loadValue t) × (t .packets + n ≤ packetsMost) ⌝ }
+fn add_packets(
+    t: Load,
+    packets: &[u8],
+    n: usize,
+    sheet: &[u8],
+    layout: PairLayout,
+    table: &[u32],
+) -> Load
+    requires { ⌜ Checked (now sheet) layout × Tabled (now sheet) layout (now table) × (packetSize * n ≤ length (now packets)) × Bounded (loadValue t) × (t .packets + n ≤ packetsMost) ⌝ }
     ensures { λ r. ⌜ (loadValue r ≡ plus (loadValue t) (loadOf (pairAt layout (now (sheet .entry))) (packetsFrom n (now (packets .entry))))) × Bounded (loadValue r) ⌝ }
 {
     let mut sum = t;
     let mut at: usize = 0;
     let mut left = n;
     while 0 < left {
-        sum = sum.plus(load_one(packet_at(packets, at), sheet, layout));
+        sum = sum.plus(load_one(packet_at(packets, at), sheet, layout, table));
         at += PACKET_BYTES;
         left -= 1;
     }
     sum
 }
 
-// A block of packets added: 2 where the whole ones are too many with those before, else 3 where the last one is broken.
-pub fn add_block(t: Load, block: &[u8], sheet: &[u8], layout: PairLayout) -> Added
-    requires { ⌜ Checked (now sheet) layout × Bounded (loadValue t) ⌝ }
+// A block of packets added, each traced in the sheet's table: 2 where the whole ones are too many with those before, else 3 where the
+// last one is broken.
+pub fn add_block(t: Load, block: &[u8], sheet: &[u8], layout: PairLayout, table: &[u32]) -> Added
+    requires { ⌜ Checked (now sheet) layout × Tabled (now sheet) layout (now table) × Bounded (loadValue t) ⌝ }
     ensures { λ r. ⌜ (addedHeard r ≡ addedTo (pairAt layout (now (sheet .entry))) (loadValue t) (now (block .entry))) × OfSum Bounded r ⌝ }
 {
     let whole = block.len() / PACKET_BYTES;
@@ -188,7 +206,7 @@ pub fn add_block(t: Load, block: &[u8], sheet: &[u8], layout: PairLayout) -> Add
     if block.len() % PACKET_BYTES != 0 {
         return Added::Refused(Refusal::LengthWrong);
     }
-    Added::Sum(add_packets(t, block, whole, sheet, layout))
+    Added::Sum(add_packets(t, block, whole, sheet, layout, table))
 }
 
 // Counters roll over on purpose.

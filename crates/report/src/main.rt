@@ -11,6 +11,7 @@ use printing::print_refusal;
 use printing::print_text;
 use reporting::HITS_NUMBERS;
 use reporting::READING_BYTES;
+use rows::TABLE_NUMBERS;
 use sheet::PAIR_BYTES;
 use sheet::PairLayout;
 use sheet::PairParts;
@@ -18,6 +19,7 @@ ghost use mathlib.Core.Path.{_≡_};
 ghost use mathlib.Core.Bool.{true};
 ghost use Prim.Native.Nat.{_≤_};
 ghost use Rattle.origins.specs.Steps.{Checked};
+ghost use Rattle.rows.specs.Steps.{Tabled};
 ghost use Rattle.load.specs.Steps.{loadValue, Bounded};
 ghost use Rattle.reporting.specs.Report.{areReadings, hitsSize};
 ghost use Rattle.report.specs.Steps.{Within, GoesOn};
@@ -97,13 +99,20 @@ fn read_file(fd: i32, buffer: &mut [u8]) -> FileRead
 }
 
 // A block that does not fill the buffer is the last one.
-fn add_next(fd: i32, t: Load, sheet: &[u8], layout: PairLayout, block: &mut [u8]) -> Block
-    requires { ⌜ Checked (now sheet) layout × Bounded (loadValue t) ⌝ }
+fn add_next(
+    fd: i32,
+    t: Load,
+    sheet: &[u8],
+    layout: PairLayout,
+    table: &[u32],
+    block: &mut [u8],
+) -> Block
+    requires { ⌜ Checked (now sheet) layout × Tabled (now sheet) layout (now table) × Bounded (loadValue t) ⌝ }
     ensures { λ r. ⌜ GoesOn r ⌝ }
 {
     match read_file(fd, block) {
         FileRead::Failed => Block::Failed,
-        FileRead::Bytes(n) => match load::add_block(t, &block[..n], sheet, layout) {
+        FileRead::Bytes(n) => match load::add_block(t, &block[..n], sheet, layout, table) {
             Added::Refused(f) => Block::Refused(f),
             Added::Sum(sum) => {
                 if n < block.len() {
@@ -116,13 +125,13 @@ fn add_next(fd: i32, t: Load, sheet: &[u8], layout: PairLayout, block: &mut [u8]
 }
 
 // All blocks added, or as many of them as have more packets than a report may.
-fn add_all(fd: i32, sheet: &[u8], layout: PairLayout, block: &mut [u8]) -> Block
-    requires { ⌜ Checked (now sheet) layout ⌝ }
+fn add_all(fd: i32, sheet: &[u8], layout: PairLayout, table: &[u32], block: &mut [u8]) -> Block
+    requires { ⌜ Checked (now sheet) layout × Tabled (now sheet) layout (now table) ⌝ }
 {
     let mut sum = Load::none();
     let mut left = BLOCKS_MOST;
     while 0 < left {
-        match add_next(fd, sum, sheet, layout, block) {
+        match add_next(fd, sum, sheet, layout, table, block) {
             Block::More(t) => {
                 sum = t;
             }
@@ -193,7 +202,9 @@ fn print_loaded(
 {
     let places = layout.boxes + layout.order.own;
     if reporting::are_readings(earlier, later, places) {
-        match add_all(packets, sheet, layout, block) {
+        let mut table = [0u32; TABLE_NUMBERS];
+        rows::put_table(sheet, layout, &mut table);
+        match add_all(packets, sheet, layout, &table, block) {
             Block::Failed => print_unread(PACKETS),
             Block::Refused(f) => print_refusal(f),
             Block::More(_) => print_refusal(Refusal::CountOutside),

@@ -5,6 +5,7 @@ use load::Load;
 use policy::Answer;
 use policy::Refusal;
 use policy::TOTAL_MOST;
+use rows::TABLE_NUMBERS;
 use sheet::PairLayout;
 use sheet::PairParts;
 ghost use mathlib.Core.Path.{_≡_};
@@ -81,7 +82,9 @@ fn load_all(sheet: &[u8], layout: PairLayout, packets: &[u8], earlier: &[u8], la
     ensures { λ r. ⌜ addedHeard r ≡ loadedOf (pairAt layout (now (sheet .entry))) (now (packets .entry)) (now (earlier .entry)) (now (later .entry)) ⌝ }
 {
     if are_readings(earlier, later, layout.boxes + layout.order.own) {
-        return load::add_block(Load::none(), packets, sheet, layout);
+        let mut table = [0u32; TABLE_NUMBERS];
+        rows::put_table(sheet, layout, &mut table);
+        return load::add_block(Load::none(), packets, sheet, layout, &table);
     }
     Added::Refused(Refusal::LengthWrong)
 }

@@ -1,23 +1,23 @@
 -- One row of numbers: read and written field by field, and what is written is read back. Assumes nothing.
 use mathlib.Core.Path.{_≡_, refl, ap, _∙_}
-use mathlib.Core.List.{List, [], _∷_, _++_, append-assoc, append-nil}
-use mathlib.Core.Bool.{Bool, true, false≢true}
+use mathlib.Core.List.{List, [], _∷_, _++_}
+use mathlib.Core.Bool.{Bool, true, false, _&&_, false≢true}
 use Prim.Native.Nat.{ℕ, suc, _+_, _*_, _-_, _<_, _≤_}
 use native.Mathlib.Omega.{arith}
 use native.Mathlib.Numerals.{add-one}
 use lib.Dec.{leb}
 use lib.ListN.{length, getD, set, take, drop, drop-of-length-le}
-use lib.Seq.{sets, take-all, drop-cons, take-suc-set}
+use lib.Seq.{sets, drop-cons}
 use borrow.Author.Tests.{leb-true}
 use Rattle.lists.specs.Lists.{Each, every, everyBoth}
 use Rattle.lists.proofs.Lists.{every-at}
 use Rattle.lists.proofs.Tests.{and-true}
 use Rattle.policy.specs.Fields.{fields, highest, widths}
-use Rattle.policy.specs.Ranges.{range, Region, properRange, proper}
+use Rattle.policy.specs.Ranges.{range, Region, within, inside, properRange, proper}
 use Rattle.policy.specs.Rules.{Proper}
 use Rattle.policy.specs.Values.{ranges}
 use Rattle.policy.proofs.Moves.{proper-whole}
-use Rattle.policy.proofs.Values.{ranges-length, ranges-set, ranges-at}
+use Rattle.policy.proofs.Values.{ranges-length, ranges-at}
 use Rattle.filter.proofs.Insides.{range-whole}
 use Rattle.wire.proofs.Items.{Items, items-written-length, items-back}
 use Rattle.wire.proofs.Records.{fits-length, proper-fits}
@@ -60,20 +60,31 @@ module _ (k : ℕ) (t : List ℕ) (p : ℕ) (here : k < fields) (there : p + 2 �
       let g = and-true (leb low high) (leb high (getD highest k 0)) (f .0) in
       (omega (arith, leb-true high (getD highest k 0) (g .1), highest-small k h), f .1)
 
-  pub field-read : (low high : List ℕ) (whole : Region) → length low ≡ length high → k < length low
-      → take k (ranges low high) ++ spansIn (drop k highest) (drop p t) ≡ whole
-      → take (k + 1) (ranges (set low k (getD t p 0)) (set high k (getD t p 0 + getD t (p + 1) 0))) ++ spansIn (drop (k + 1) highest) (drop (p + 2) t) ≡ whole
-  field-read low high whole e g inv =
-      let l : k < length (ranges low high) = omega (arith, ranges-length low high e) in
-      rw (ranges-set, add-one k, take-suc-set (ranges low high) k (range (getD t p 0) (getD t p 0 + getD t (p + 1) 0)) l, append-assoc, ← add-one k) (rw field-in at inv)
+  -- the field of a packet, tried
+  module _ (values : List ℕ) (long : k < length values) (whole : Bool) (inv : inside (drop k values) (spansIn (drop k highest) (drop p t)) ≡ whole) where
+    abbrev tried : Bool
+    tried = within (getD values k 0) (range (getD t p 0) (getD t p 0 + getD t (p + 1) 0))
 
-pub row-read : (k : ℕ) (t : List ℕ) (low high : List ℕ) (whole : Region) → fields ≤ k → length low ≡ length high → length low ≤ k
-    → take k (ranges low high) ++ spansIn (drop k highest) t ≡ whole → ranges low high ≡ whole
-unfolding spansIn
-row-read k t low high whole h e g inv =
+    abbrev later : Bool
+    later = inside (drop (k + 1) values) (spansIn (drop (k + 1) highest) (drop (p + 2) t))
+
+    both : (tried && later) ≡ whole
+    unfolding inside
+    both =
+        let z : drop k values ≡ getD values k 0 ∷ drop (k + 1) values = rw (add-one k) (drop-cons values k 0 long) in
+        rw (field-in, z) at inv
+
+    pub field-has : tried ≡ true → later ≡ whole
+    field-has h = rw h at both
+
+    pub field-misses : tried ≡ false → false ≡ whole
+    field-misses h = rw h at both
+
+pub row-tried : (k : ℕ) (values t : List ℕ) (whole : Bool) → fields ≤ k → length values ≤ k → inside (drop k values) (spansIn (drop k highest) t) ≡ whole → true ≡ whole
+unfolding spansIn inside
+row-tried k values t whole h g inv =
     let l : length highest ≤ k = omega (arith, highest-length) in
-    let m : length (ranges low high) ≤ k = omega (arith, ranges-length low high e) in
-    rw (drop-of-length-le highest l, append-nil, take-all k (ranges low high) m) at inv
+    rw (drop-of-length-le highest l, drop-of-length-le values g) at inv
 
 -- Writing.
 module _ (low high : List ℕ) (same : length low ≡ length high) (k : ℕ) where

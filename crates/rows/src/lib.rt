@@ -1,5 +1,5 @@
 // The rules of a pair sheet read once into a table of numbers, and packets traced there: for many packets on one sheet that passes check.
-use filter::is_inside;
+use filter::is_within;
 use origins::Trace;
 use policy::BOX_BYTES;
 use policy::Box;
@@ -16,6 +16,7 @@ ghost use lib.ListN.{length, getD, drop};
 ghost use lib.Seq.{sets};
 ghost use Rattle.lists.specs.Lists.{Each};
 ghost use Rattle.policy.specs.Fields.{boxSize};
+ghost use Rattle.policy.specs.Ranges.{inside};
 ghost use Rattle.policy.specs.Rules.{Proper, found, first};
 ghost use Rattle.policy.specs.Move.{together};
 ghost use Rattle.policy.specs.Steps.{boxNumber};
@@ -36,23 +37,24 @@ const FRONTS: usize = ROW_NUMBERS * (GATE_MOST + TOTAL_MOST);
 // Room for the rows and the fronts.
 pub const TABLE_NUMBERS: usize = FRONTS + (GATE_MOST + 1);
 
-// The box of the row that begins at `at`. Where a packet is tried in it each low is taken from its high again, and the compiler compares
-// with the row's own number.
-fn row_at(table: &[u32], at: usize) -> Box
+// Whether the row that begins at `at` has the packet. A field outside its range ends the row. Of each field the compiler compares the
+// row's two numbers as they are: the low is added here and taken away again.
+fn row_has(p: Packet, table: &[u32], at: usize) -> bool
     requires { ⌜ (at + rowSize ≤ length (now table)) × Proper (rowIn (drop at (now table))) ⌝ }
-    ensures { λ r. ⌜ regionOf r ≡ rowIn (drop at (now (table .entry))) ⌝ }
+    ensures { λ r. ⌜ r ≡ inside (packetOf p) (rowIn (drop at (now (table .entry)))) ⌝ }
 {
-    let mut low = [0u32; FIELDS];
-    let mut high = [0u32; FIELDS];
-    let mut p = at;
+    let values = p.values;
+    let mut start = at;
     let mut k: usize = 0;
     while k < FIELDS {
-        low[k] = table[p];
-        high[k] = table[p] + table[p + 1];
-        p += 2;
+        let low = table[start];
+        if !is_within(values[k], low, low + table[start + 1]) {
+            return false;
+        }
+        start += 2;
         k += 1;
     }
-    Box { low, high }
+    true
 }
 
 // The row of a box, from `at` on.
@@ -154,7 +156,7 @@ fn first_row(p: Packet, table: &[u32], at: usize, n: usize) -> usize
     let mut start = at;
     let mut left = n;
     while 0 < left {
-        if is_inside(p, row_at(table, start)) {
+        if row_has(p, table, start) {
             return n - left;
         }
         start += ROW_NUMBERS;

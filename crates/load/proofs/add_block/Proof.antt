@@ -1,4 +1,4 @@
--- `add_block` meets its contract. Assumes nothing.
+-- `add_block` meets its contract, by its two tests. Assumes nothing.
 use borrow.Author.Needs.{needs}
 use native.Mathlib.Omega.{arith}
 use mathlib.Core.Path.{ap, _∙_}
@@ -13,11 +13,11 @@ sub-if1 c = search needs
 
 returns : tie.Need-returns
 unfolding addedHeard OfSum
-returns c = let b = c .before .before .before .before .pre .1 .packets in (added-many _ _ _ (omega arith), tt)
+returns c = let b = c .before .before .before .before .before .pre .2 .packets in (added-many _ _ _ (omega arith), tt)
 
 returns-2 : tie.Need-returns-2
 unfolding addedHeard OfSum
-returns-2 c = let b = c .before .before .before .before .before .pre .1 .packets in (added-broken _ _ _ (omega arith) (c .if2 .taken), tt)
+returns-2 c = let b = c .before .before .before .before .before .before .pre .2 .packets in (added-broken _ _ _ (omega arith) (c .if2 .taken), tt)
 
 add-packets-requires : tie.Need-add-packets-requires
 add-packets-requires c κs = search needs
@@ -25,7 +25,7 @@ add-packets-requires c κs = search needs
 returns-3 : tie.Need-returns-3
 unfolding addedHeard OfSum
 returns-3 c =
-    let b = c .before .before .before .before .before .before .pre .1 .packets in
+    let b = c .before .before .before .before .before .before .before .pre .2 .packets in
     let e = c .add-packets .ensures in
     (ap accepted (e .0) ∙ added-sum _ _ _ (omega arith) (c .before .if2 .left), e .1)
 

@@ -1,4 +1,4 @@
--- `add_packets` meets its contract. Assumes nothing.
+-- `add_packets` meets its contract: the loop's invariant says what is left of the packets. Assumes nothing.
 use borrow.Author.Needs.{needs}
 use native.Mathlib.Omega.{arith}
 use Rattle.sheet.specs.Steps.{pairAt}
@@ -8,19 +8,19 @@ use Rattle.load.proofs.add_packets.Statement.{statement}
 use Rattle.load.proofs.add_packets.Tie as tie
 
 abbrev Inv-loop : tie.InvT-loop
-Inv-loop packets n sheet layout sum₀ at₀ left₀ sum at left = Left (pairAt layout sheet) packets (loadValue sum₀) n (loadValue sum) at left
+Inv-loop packets n sheet layout table sum₀ at₀ left₀ sum at left = Left (pairAt layout sheet) packets (loadValue sum₀) n (loadValue sum) at left
 
 abbrev μ-loop : tie.MeasureT-loop
-μ-loop packets n sheet layout sum₀ at₀ left₀ sum at left = left
+μ-loop packets n sheet layout table sum₀ at₀ left₀ sum at left = left
 
 loop-holds : tie.Need-loop-holds Inv-loop μ-loop
-loop-holds c = let p = c .before .before .pre in left-all _ _ _ _ (p .1) (p .2) (p .3)
+loop-holds c = let p = c .before .before .before .pre in left-all _ _ _ _ (p .2) (p .3) (p .4)
 
 packet-at-requires : tie.Need-packet-at-requires Inv-loop μ-loop
 packet-at-requires c κs = packet-there _ _ _ _ _ _ _ (c .before .loop .inv) (c .loop-test .taken)
 
 load-one-requires : tie.Need-load-one-requires Inv-loop μ-loop
-load-one-requires c κs = c .before .before .before .before .before .pre .0
+load-one-requires c κs = let p = c .before .before .before .before .before .before .pre in (p .0, p .1)
 
 plus-requires : tie.Need-plus-requires Inv-loop μ-loop
 plus-requires c κs = (c .before .before .before .loop .inv .bounded, c .load-one .ensures .1)

@@ -11,32 +11,32 @@ enum-known-t c = search needs
 add-t9 : tie.Need-add-t9
 add-t9 c = let f = brief-gate _ _ _ (c .before .t .given .1) (c .before .before .before .pre) in omega (arith, f .0)
 
-add-t11 : tie.Need-add-t11
-add-t11 c = let f = brief-gate _ _ _ (c .before .t .given .1) (c .before .before .before .pre) in omega (arith, f .1)
+tries-to-requires : tie.Need-tries-to-requires
+tries-to-requires c κs = brief-gate _ _ _ (c .before .t .given .1) (c .before .before .before .pre) .1
 
 enum-known-t-2 : tie.Need-enum-known-t-2
 enum-known-t-2 c = search needs
 
+add-t12 : tie.Need-add-t12
+add-t12 c = let f = brief-own _ _ _ _ (c .before .t2 .given .1) (c .before .before .before .pre) in omega (arith, f .0, f .1)
+
 add-t13 : tie.Need-add-t13
 add-t13 c = let f = brief-own _ _ _ _ (c .before .t2 .given .1) (c .before .before .before .pre) in omega (arith, f .0, f .1)
 
-add-t14 : tie.Need-add-t14
-add-t14 c = let f = brief-own _ _ _ _ (c .before .t2 .given .1) (c .before .before .before .pre) in omega (arith, f .0, f .1)
+tries-to-requires-2 : tie.Need-tries-to-requires-2
+tries-to-requires-2 c κs = brief-own _ _ _ _ (c .before .t2 .given .1) (c .before .before .before .pre) .2
 
-add-t16 : tie.Need-add-t16
-add-t16 c = let f = brief-own _ _ _ _ (c .before .t2 .given .1) (c .before .before .before .pre) in omega (arith, f .2)
-
-cast-t18 : tie.Need-cast-t18
-cast-t18 c = search needs
+cast-t16 : tie.Need-cast-t16
+cast-t16 c = search needs
 
 enum-told : tie.Need-enum-told
 enum-told c = search needs
 
 returns : tie.Need-returns
-returns c = rw (c .before .t .given .1) (gate-load _ _ _)
+returns c = rw (c .before .before .t .given .1, c .tries-to .ensures) (gate-load _ _ _)
 
 returns-2 : tie.Need-returns-2
-returns-2 c = rw (c .before .t2 .given .1) (own-load _ _ _ _)
+returns-2 c = rw (c .before .before .t2 .given .1, c .tries-to2 .ensures) (own-load _ _ _ _)
 
 returns-3 : tie.Need-returns-3
 returns-3 c = rw (c .enum-told .given .1) nowhere-load
@@ -47,12 +47,12 @@ load-traced-spec =
     (tie.spec
     enum-known-t
     add-t9
-    add-t11
+    tries-to-requires
     enum-known-t-2
+    add-t12
     add-t13
-    add-t14
-    add-t16
-    cast-t18
+    tries-to-requires-2
+    cast-t16
     enum-told
     returns
     returns-2

@@ -9,10 +9,10 @@ use Rattle.report.proofs.add_all.Statement.{statement}
 use Rattle.report.proofs.add_all.Tie as tie
 
 abbrev Inv-loop : tie.InvT-loop
-Inv-loop fd sheet layout block₀ sum₀ left₀ block sum left = (length block ≡ length block₀) × Bounded (loadValue sum)
+Inv-loop fd sheet layout table block₀ sum₀ left₀ block sum left = (length block ≡ length block₀) × Bounded (loadValue sum)
 
 abbrev μ-loop : tie.MeasureT-loop
-μ-loop fd sheet layout block₀ sum₀ left₀ block sum left = left
+μ-loop fd sheet layout table block₀ sum₀ left₀ block sum left = left
 
 none-requires : tie.Need-none-requires Inv-loop μ-loop
 none-requires c κs = search needs
@@ -21,7 +21,7 @@ loop-holds : tie.Need-loop-holds Inv-loop μ-loop
 loop-holds c = (refl, subst Bounded (sym (c .none .ensures)) none-bounded)
 
 add-next-requires : tie.Need-add-next-requires Inv-loop μ-loop
-add-next-requires c κs = (c .before .before .before .before .before .before .pre, c .before .before .loop .inv .1)
+add-next-requires c κs = let p = c .before .before .before .before .before .before .before .pre in (p .0, p .1, c .before .before .loop .inv .1)
 
 enum-known-t : tie.Need-enum-known-t Inv-loop μ-loop
 enum-known-t c = search needs

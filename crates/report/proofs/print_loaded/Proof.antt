@@ -10,6 +10,15 @@ add-places c = search needs
 are-readings-requires : tie.Need-are-readings-requires
 are-readings-requires c κs = search needs
 
+slice-aggregate-put-table : tie.Need-slice-aggregate-put-table
+slice-aggregate-put-table c = search needs
+
+put-table-requires : tie.Need-put-table-requires
+put-table-requires c κs = search needs
+
+slice-aggregate-add-all : tie.Need-slice-aggregate-add-all
+slice-aggregate-add-all c = search needs
+
 add-all-requires : tie.Need-add-all-requires
 add-all-requires c κs = search needs
 
@@ -38,7 +47,7 @@ print-load-requires : tie.Need-print-load-requires
 print-load-requires c κs = search needs
 
 print-hits-requires : tie.Need-print-hits-requires
-print-hits-requires c κs = (c .before .before .before .before .before .before .before .before .before .before .before .before .before .before .before .pre .laid .totalLimit, sym (c .before .before .before .before .before .before .before .before .before .are-readings .ensures) ∙ c .before .before .before .before .before .before .before .before .if1 .taken)
+print-hits-requires c κs = (c .before .before .before .before .before .before .before .before .before .before .before .before .before .before .before .before .before .before .before .pre .laid .totalLimit, sym (c .before .before .before .before .before .before .before .before .before .before .before .before .before .are-readings .ensures) ∙ c .before .before .before .before .before .before .before .before .before .before .before .before .if1 .taken)
 
 print-refusal-requires-3 : tie.Need-print-refusal-requires-3
 print-refusal-requires-3 c κs = search needs
@@ -76,6 +85,9 @@ print-loaded-spec =
     (tie.spec
     add-places
     are-readings-requires
+    slice-aggregate-put-table
+    put-table-requires
+    slice-aggregate-add-all
     add-all-requires
     enum-told
     print-unread-requires

@@ -12,17 +12,26 @@ add-are-readings c = search needs
 are-readings-requires : tie.Need-are-readings-requires
 are-readings-requires c κs = search needs
 
+slice-aggregate-put-table : tie.Need-slice-aggregate-put-table
+slice-aggregate-put-table c = search needs
+
+put-table-requires : tie.Need-put-table-requires
+put-table-requires c κs = search needs
+
 none-requires : tie.Need-none-requires
 none-requires c κs = search needs
 
+slice-aggregate-add-block : tie.Need-slice-aggregate-add-block
+slice-aggregate-add-block c = search needs
+
 add-block-requires : tie.Need-add-block-requires
-add-block-requires c κs = (c .before .before .before .before .before .before .before .before .pre, subst Bounded (sym (c .none .ensures)) none-bounded)
+add-block-requires c κs = (c .before .before .before .before .before .before .before .before .before .before .before .before .pre, c .before .before .before .put-table .ensures, subst Bounded (sym (c .before .none .ensures)) none-bounded)
 
 returns : tie.Need-returns
 returns c =
-    let p = c .before .before .before .before .before .before .before .before .before .pre in
+    let p = c .before .before .before .before .before .before .before .before .before .before .before .before .before .pre in
     let e = c .add-block .ensures .0 in
-    (rw (c .before .none .ensures) at e) ∙ readings-right _ _ _ _ _ (places-are (p .laid)) (sym (c .before .before .before .are-readings .ensures) ∙ c .before .before .if1 .taken)
+    (rw (c .before .before .none .ensures) at e) ∙ readings-right _ _ _ _ _ (places-are (p .laid)) (sym (c .before .before .before .before .before .before .before .are-readings .ensures) ∙ c .before .before .before .before .before .before .if1 .taken)
 
 returns-2 : tie.Need-returns-2
 unfolding addedHeard
@@ -36,7 +45,10 @@ load-all-spec =
     (tie.spec
     add-are-readings
     are-readings-requires
+    slice-aggregate-put-table
+    put-table-requires
     none-requires
+    slice-aggregate-add-block
     add-block-requires
     returns
     returns-2)

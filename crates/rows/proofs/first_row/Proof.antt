@@ -6,18 +6,14 @@ use mathlib.Core.List.{List, _∷_}
 use Prim.Native.Nat.{ℕ, _+_, _*_, _-_, _≤_, _<_}
 use lib.ListN.{length, drop}
 use Rattle.lists.specs.Lists.{Each}
-use Rattle.policy.specs.Fields.{highest}
-use Rattle.policy.specs.Ranges.{Region, Packet, inside}
+use Rattle.policy.specs.Ranges.{Region, Packet}
 use Rattle.policy.specs.Rules.{Proper}
 use Rattle.policy.specs.Steps.{boxNumber}
 use Rattle.policy.specs.Values.{packetOf}
-use Rattle.policy.proofs.Moves.{proper-whole}
 use Rattle.rows.specs.Steps.{rowSize, rowIn, rowsIn}
 use Rattle.rows.proofs.Turns.{items-turn, each-turn, turn-has, turn-misses, items-none}
 use Rattle.rows.proofs.first_row.Statement.{statement}
 use Rattle.rows.proofs.first_row.Tie as tie
-use Rattle.filter.proofs.is_inside.Reads as is-inside-reads
-use Rattle.rows.proofs.row_at.Reads as row-at-reads
 
 abbrev Inv-loop : tie.InvT-loop
 Inv-loop p table at n start₀ left₀ start left =
@@ -57,21 +53,18 @@ module _ (a : tie.At-loop Inv-loop μ-loop) where
     number : boxNumber packet (rowsIn (start .args .n) (drop (start .args .at) table)) ≡ start .args .n - a .loop .left + boxNumber packet (row ∷ later)
     number = a .loop .inv .3 ∙ ap (λ (l : List Region). start .args .n - a .loop .left + boxNumber packet l) (items-turn rowSize rowIn table (a .loop .start) (a .loop .left) some)
 
-row-at-requires : tie.Need-row-at-requires Inv-loop μ-loop
-row-at-requires c κs = (omega (arith, c .before .loop .inv .1, c .loop-test .taken), proper (c .before) (c .loop-test .taken) .0)
-
-is-inside-requires : tie.Need-is-inside-requires Inv-loop μ-loop
-is-inside-requires c κs = rw (c .row-at .ensures) (proper-whole highest _ (proper (c .before .before) (c .before .loop-test .taken) .0))
+row-has-requires : tie.Need-row-has-requires Inv-loop μ-loop
+row-has-requires c κs = (omega (arith, c .before .loop .inv .1, c .loop-test .taken), proper (c .before) (c .loop-test .taken) .0)
 
 sub-result : tie.Need-sub-result Inv-loop μ-loop
-sub-result c = c .before .before .before .before .loop .inv .0
+sub-result c = c .before .before .before .loop .inv .0
 
 returns : tie.Need-returns Inv-loop μ-loop
 returns c =
-    let a = c .before .before .before .before in
-    let some = c .before .before .before .loop-test .taken in
+    let a = c .before .before .before in
+    let some = c .before .before .loop-test .taken in
     turn-has (packet a) _ (start a .args .n) (a .loop .left) (row a) (later a) (number a some)
-    (ap (inside (packet a)) (sym (c .before .before .row-at .ensures)) ∙ (sym (c .before .is-inside .ensures) ∙ c .if1 .taken))
+    (sym (c .before .row-has .ensures) ∙ c .if1 .taken)
 
 add-start : tie.Need-add-start Inv-loop μ-loop
 add-start c = search needs
@@ -84,13 +77,13 @@ loop-less c = search needs
 
 loop-again : tie.Need-loop-again Inv-loop μ-loop
 loop-again c =
-    let a = c .before .before .before .before in
-    let some = c .before .before .before .loop-test .taken in (
+    let a = c .before .before .before in
+    let some = c .before .before .loop-test .taken in (
       omega (arith, a .loop .inv .0),
       omega (arith, a .loop .inv .1),
       proper a some .1,
       turn-misses (packet a) _ (start a .args .n) (a .loop .left) (row a) (later a) (number a some)
-          (ap (inside (packet a)) (sym (c .before .before .row-at .ensures)) ∙ (sym (c .before .is-inside .ensures) ∙ c .if1 .left)) (a .loop .inv .0) some,
+          (sym (c .before .row-has .ensures) ∙ c .if1 .left) (a .loop .inv .0) some,
     )
 
 returns-2 : tie.Need-returns-2 Inv-loop μ-loop
@@ -107,8 +100,7 @@ first-row-spec =
     Inv-loop
     μ-loop
     loop-holds
-    row-at-requires
-    is-inside-requires
+    row-has-requires
     sub-result
     returns
     add-start
