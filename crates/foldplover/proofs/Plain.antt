@@ -26,7 +26,7 @@ use Rattle.promises.proofs.Lengths.{filled-within, call-length}
 use Rattle.filter.specs.Lookup.{lookupNumber}
 use Rattle.origins.specs.Origin.{Decision, originCall, valueOf, Origins}
 use Rattle.origins.proofs.Calls.{value-small}
-use Rattle.reporting.specs.Report.{Report, totalsSize, hitsSize, hitsOf, allLent, reportCall, Reports}
+use Rattle.reporting.specs.Report.{Report, totalsSize, hitsSize, reportHits, allLent, reportCall, Reports}
 use Rattle.foldplover.specs.Coded.{Plain}
 use Rattle.wire.specs.Lists.{listBytes}
 
@@ -89,7 +89,7 @@ origin-plain {p = p} {s = s} {ns = ns} {w = w} x = subst Plain (sym (x .answer))
 
 -- Report: as many places as there are hits, which are within their buffer.
 report-small : (s packets earlier later ts hs w : List ℕ) (x : Outcome Report) → reportCall s packets earlier later (allLent ts hs w) ≡ x
-    → length (written hitsOf hitsSize hs x) ≡ length hs → Plain (lengthOf hitsOf x)
+    → length (written reportHits hitsSize hs x) ≡ length hs → Plain (lengthOf reportHits x)
 unfolding reportCall allLent written lengthOf roomFor
 report-small s packets earlier later ts hs w (accepted r) e h =
     let t = test-accepted (leb totalsSize (length ts) && (leb hitsSize (length hs) && leb workSize (length w))) 1 _ e in

@@ -4,8 +4,9 @@ use mathlib.Core.List.{List, [], _∷_, _++_, map, append-assoc}
 use mathlib.Core.Bool.{Bool, true, false, cond}
 use Prim.Native.Nat.{ℕ, zero, suc, _+_, _<_, _≤_}
 use native.Mathlib.Omega.{arith}
+use native.Mathlib.Numerals.{add-one}
 use lib.ListN.{length, getD, set, take, drop, take-append-drop}
-use lib.Seq.{sets, sets-eq, take-set-le, drop-set-lt}
+use lib.Seq.{sets, sets-eq, drop-cons, take-set-le, drop-set-lt}
 use Rattle.lists.specs.Lists.{Each, every}
 use Rattle.lists.proofs.Tests.{and-true, and-both}
 
@@ -31,6 +32,11 @@ pub sets-append {ℓ} : {A : Type ℓ} (l : List A) (i : ℕ) (u v : List A) →
 sets-append l i [] v = ap (λ (n : ℕ). sets l n v) (omega arith)
 sets-append l i (a ∷ u) v =
     sets-append (set l i a) (suc i) u v ∙ ap (λ (n : ℕ). sets (sets (set l i a) (suc i) u) n v) (omega arith)
+
+-- One store more of a run: what is left of it.
+pub sets-next {ℓ} : {A : Type ℓ} (l : List A) (i : ℕ) (vs : List A) (k : ℕ) (x d : A) (whole : List A) → k < length vs → x ≡ getD vs k d → sets l i (drop k vs) ≡ whole
+    → sets (set l i x) (i + 1) (drop (k + 1) vs) ≡ whole
+sets-next l i vs k x d whole h e inv = rw (e, add-one, add-one) (rw (drop-cons vs k d h) at inv)
 
 -- It keeps what stands before it and behind it.
 pub take-sets {ℓ} : {A : Type ℓ} (n : ℕ) (l : List A) (i : ℕ) (vs : List A) → n ≤ i → take n (sets l i vs) ≡ take n l

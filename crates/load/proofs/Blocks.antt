@@ -2,21 +2,21 @@
 use mathlib.Core.Path.{_≡_, refl, ap, sym, _∙_, subst}
 use mathlib.Core.List.{List, [], _∷_, _++_}
 use mathlib.Core.Bool.{Bool, true, false}
-use Prim.Native.Nat.{ℕ, suc, _+_, _*_, _-_, _%_, _≤_, _<_}
+use Prim.Native.Nat.{ℕ, _+_, _*_, _-_, _%_, _≤_, _<_}
 use native.Mathlib.Omega.{arith}
 use lib.Dec.{leb, eqb}
 use lib.ListN.{length, drop}
-use lib.Seq.{drop-drop}
 use borrow.Author.Tests.{leb-false, le-leb, lt-leb, eq-eqb, ne-eqb}
 use Rattle.policy.specs.Ranges.{Packet}
 use Rattle.policy.specs.Move.{Pair}
 use Rattle.policy.specs.Refusals.{accepted, refused, test, andThen}
 use Rattle.wire.specs.Records.{eachIn}
-use Rattle.load.specs.Load.{Load, sumOf, passed, loadOf, plus}
+use Rattle.wire.proofs.Items.{items-count, items-turn}
+use Rattle.load.specs.Load.{Load, sumOf, forwardedBy, loadOf, plus}
 use Rattle.load.specs.Packets.{packetSize, packetIn, wholePackets, packetsFrom, packetsIn, packetsMost, addedTo}
 use Rattle.load.specs.Steps.{Bounded}
 use Rattle.load.proofs.Sums.{plus-none, plus-assoc, loads-append, load-first}
-use Rattle.load.proofs.Packets.{packets-length, whole-both, rest-both, packets-append}
+use Rattle.load.proofs.Packets.{whole-both, rest-both, packets-append}
 
 pub bounded-plus : (t u : Load) → Bounded t → Bounded u → t .packets + u .packets ≤ packetsMost → Bounded (plus t u)
 unfolding plus
@@ -46,9 +46,8 @@ module _ (q : Pair) (s : List ℕ) (start : Load) (n : ℕ) where
     unfolding eachIn plus loadOf
     left-next h packet one sum is-packet one-is b k =
         let e : one ≡ loadOf q (packetIn (drop at s) ∷ []) = one-is ∙ ap (λ (p : Packet). loadOf q (p ∷ [])) is-packet in
-        let m : left ≡ suc (left - 1) = omega arith in
         let p : one .packets ≡ 1 = ap (λ (u : Load). u .packets) e in
-        let f : packetsFrom left (drop at s) ≡ packetIn (drop at s) ∷ packetsFrom (left - 1) (drop (at + packetSize) s) = ap (λ (i : ℕ). packetsFrom i (drop at s)) m ∙ rw (drop-drop packetSize at s) refl in
+        let f = items-turn packetSize packetIn s at left h in
         let r = load-first q t (packetIn (drop at s)) (packetsFrom (left - 1) (drop (at + packetSize) s)) in
         subst (λ (u : Load). Left u (at + packetSize) (left - 1)) (sym k)
         (record {
@@ -59,7 +58,7 @@ module _ (q : Pair) (s : List ℕ) (start : Load) (n : ℕ) where
         })
 
     pub left-none : left ≤ 0 → (t ≡ plus start (loadOf q (packetsFrom n s))) × Bounded t
-    unfolding eachIn loadOf sumOf passed
+    unfolding eachIn loadOf sumOf forwardedBy
     left-none h =
         let z : left ≡ 0 = omega arith in
         (sym (plus-none t) ∙ (rw z at (is .same)), is .bounded)
@@ -70,7 +69,7 @@ module _ (q : Pair) (t : Load) (block rest : List ℕ) (whole : length block % p
 
   sum-packets : sum .packets ≡ t .packets + wholePackets block
   unfolding plus loadOf
-  sum-packets = ap (λ (n : ℕ). t .packets + n) (packets-length (wholePackets block) block)
+  sum-packets = ap (λ (n : ℕ). t .packets + n) (items-count packetSize packetIn (wholePackets block) block)
 
   all-counted : t .packets + wholePackets (block ++ rest) ≡ sum .packets + wholePackets rest
   all-counted = let w = whole-both block rest whole in omega (arith, sum-packets, w)

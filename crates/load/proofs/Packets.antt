@@ -13,12 +13,12 @@ use Rattle.lists.specs.Lists.{Each, every}
 use Rattle.lists.proofs.Tests.{and-true, and-both}
 use Rattle.policy.specs.Fields.{Field, fieldTable, highest, widths}
 use Rattle.policy.specs.Ranges.{range, within, inside, fullOver}
-use Rattle.policy.specs.Rules.{inLimits}
 use Rattle.wire.specs.Numbers.{numberIn, Byte}
 use Rattle.wire.specs.Records.{eachIn}
 use Rattle.wire.proofs.Numbers.{bytes-take, bytes-drop, number-bound}
 use Rattle.wire.proofs.Records.{exact, highestOf, widthOf}
-use Rattle.load.specs.Packets.{valuesIn, sumWidths, packetSize, packetIn, packetsFrom, packetsIn}
+use Rattle.load.specs.Theorems.{InLimits}
+use Rattle.load.specs.Packets.{wholePackets, valuesIn, sumWidths, packetSize, packetIn, packetsFrom, packetsIn}
 
 -- A packet read number by number.
 pub widths-step : (ws : List ℕ) (k : ℕ) → k < length ws → sumWidths (drop k ws) ≡ getD ws k 0 + sumWidths (drop (k + 1) ws)
@@ -43,11 +43,6 @@ values-front [] s t h = refl
 values-front (w ∷ ws) s t h =
     let r = values-front ws (drop w s) t (rw length-drop (omega arith)) in
     rw (take-append-le w s t (omega arith), drop-append-le w s t (omega arith), r) refl
-
-pub packets-length : (n : ℕ) (s : List ℕ) → length (packetsFrom n s) ≡ n
-unfolding eachIn
-packets-length zero s = refl
-packets-length (suc n) s = ap suc (packets-length n (drop packetSize s))
 
 packets-both : (m n : ℕ) (s t : List ℕ) → packetSize * m ≡ length s → packetsFrom (m + n) (s ++ t) ≡ packetsFrom m s ++ packetsFrom n t
 unfolding eachIn
@@ -85,6 +80,15 @@ values-inside (f ∷ fs) s e b h =
     (and-both (leb 0 x) (leb x (f .highest)) (le-leb 0 x (omega arith)) (le-leb x (f .highest) (omega (arith, w, n))))
     (values-inside fs (drop (f .width) s) (d .1) (bytes-drop (f .width) s b) (rw length-drop (omega arith)))
 
-pub packet-inside : (s : List ℕ) → Each Byte s → packetSize ≤ length s → inLimits (packetIn s) ≡ true
+packet-inside : (s : List ℕ) → Each Byte s → packetSize ≤ length s → InLimits (packetIn s)
 unfolding highest every
 packet-inside s b h = values-inside fieldTable s refl b h
+
+packets-from : (n : ℕ) (s : List ℕ) → Each Byte s → packetSize * n ≤ length s → Each InLimits (packetsFrom n s)
+unfolding eachIn Each
+packets-from zero s b h = tt
+packets-from (suc n) s b h =
+    (packet-inside s b (omega arith), packets-from n (drop packetSize s) (bytes-drop packetSize s b) (rw length-drop (omega arith)))
+
+pub packets-inside : (s : List ℕ) → Each Byte s → Each InLimits (packetsIn s)
+packets-inside s b = packets-from (wholePackets s) s b (omega arith)

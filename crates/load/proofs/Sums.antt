@@ -8,20 +8,20 @@ use lib.ListN.{length, length-append}
 use Rattle.policy.specs.Ranges.{Packet}
 use Rattle.policy.specs.Rules.{Rule, forwards}
 use Rattle.policy.specs.Move.{Pair}
-use Rattle.load.specs.Load.{triesBefore, triesAfter, passed, sumOf, Load, load, loadOf, plus, noLoad}
+use Rattle.load.specs.Load.{triesBefore, triesAfter, forwardedBy, sumOf, Load, load, loadOf, plus, noLoad}
 
 sum-append : (f : Packet → ℕ) (ps rest : List Packet) → sumOf f (ps ++ rest) ≡ sumOf f ps + sumOf f rest
 unfolding sumOf
 sum-append f [] rest = omega arith
 sum-append f (p ∷ ps) rest = let e = sum-append f ps rest in omega (arith, e)
 
-passed-append : (gate cell : List Rule) (ps rest : List Packet) → passed gate cell (ps ++ rest) ≡ passed gate cell ps ++ passed gate cell rest
-unfolding passed
-passed-append gate cell [] rest = refl
-passed-append gate cell (p ∷ ps) rest = go (forwards p gate cell) (passed-append gate cell ps rest)
+forwarded-append : (gate cell : List Rule) (ps rest : List Packet) → forwardedBy gate cell (ps ++ rest) ≡ forwardedBy gate cell ps ++ forwardedBy gate cell rest
+unfolding forwardedBy
+forwarded-append gate cell [] rest = refl
+forwarded-append gate cell (p ∷ ps) rest = go (forwards p gate cell) (forwarded-append gate cell ps rest)
   where
-    go : (t : Bool) → passed gate cell (ps ++ rest) ≡ passed gate cell ps ++ passed gate cell rest
-        → cond t (p ∷ passed gate cell (ps ++ rest)) (passed gate cell (ps ++ rest)) ≡ cond t (p ∷ passed gate cell ps) (passed gate cell ps) ++ passed gate cell rest
+    go : (t : Bool) → forwardedBy gate cell (ps ++ rest) ≡ forwardedBy gate cell ps ++ forwardedBy gate cell rest
+        → cond t (p ∷ forwardedBy gate cell (ps ++ rest)) (forwardedBy gate cell (ps ++ rest)) ≡ cond t (p ∷ forwardedBy gate cell ps) (forwardedBy gate cell ps) ++ forwardedBy gate cell rest
     go true e = ap (λ (l : List Packet). p ∷ l) e
     go false e = e
 
@@ -32,8 +32,8 @@ load-same n b a f = λ i. load (n i) (b i) (a i) (f i)
 pub loads-append : (q : Pair) (ps rest : List Packet) → loadOf q (ps ++ rest) ≡ plus (loadOf q ps) (loadOf q rest)
 unfolding loadOf plus
 loads-append q ps rest =
-    let f = passed-append (q .order .gate) (q .order .own) ps rest in
-    load-same (length-append ps rest) (sum-append (triesBefore q) ps rest) (sum-append (triesAfter q) ps rest) (ap length f ∙ length-append (passed (q .order .gate) (q .order .own) ps) (passed (q .order .gate) (q .order .own) rest))
+    let f = forwarded-append (q .order .gate) (q .order .own) ps rest in
+    load-same (length-append ps rest) (sum-append (triesBefore q) ps rest) (sum-append (triesAfter q) ps rest) (ap length f ∙ length-append (forwardedBy (q .order .gate) (q .order .own) ps) (forwardedBy (q .order .gate) (q .order .own) rest))
 
 pub plus-none : (t : Load) → plus t noLoad ≡ t
 unfolding plus

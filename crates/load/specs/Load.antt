@@ -27,9 +27,9 @@ abbrev pub triesAfter : Pair → Packet → ℕ
 triesAfter q p = triesOf (gateList q) (cellList q) p
 
 -- The packets of a list that two filters forward, in their order.
-unfoldable pub passed : List Rule → List Rule → List Packet → List Packet
-passed gate cell [] = []
-passed gate cell (p ∷ ps) = cond (forwards p gate cell) (p ∷ passed gate cell ps) (passed gate cell ps)
+unfoldable pub forwardedBy : List Rule → List Rule → List Packet → List Packet
+forwardedBy gate cell [] = []
+forwardedBy gate cell (p ∷ ps) = cond (forwards p gate cell) (p ∷ forwardedBy gate cell ps) (forwardedBy gate cell ps)
 
 -- The exact sum of a number of each packet.
 unfoldable pub sumOf : (Packet → ℕ) → List Packet → ℕ
@@ -47,7 +47,7 @@ abbrev pub load : ℕ → ℕ → ℕ → ℕ → Load
 load n b a f = record { packets = n; before = b; after = a; forwarded = f }
 
 unfoldable pub loadOf : Pair → List Packet → Load
-loadOf q ps = load (length ps) (sumOf (triesBefore q) ps) (sumOf (triesAfter q) ps) (length (passed (q .order .gate) (q .order .own) ps))
+loadOf q ps = load (length ps) (sumOf (triesBefore q) ps) (sumOf (triesAfter q) ps) (length (forwardedBy (q .order .gate) (q .order .own) ps))
 
 -- Two loads together, and the load of no packets.
 unfoldable pub plus : Load → Load → Load
@@ -56,8 +56,8 @@ plus t u = load (t .packets + u .packets) (t .before + u .before) (t .after + u 
 abbrev pub noLoad : Load
 noLoad = load 0 0 0 0
 
--- The greatest common divisor by Euclid's steps: the second number, at most so many times, takes the place of the first, and what the
--- division leaves its own. As many steps as the second number has ones are enough, since it falls each time.
+-- The greatest common divisor by Euclid's steps: while the second number is not 0, it takes the place of the first one, and what the
+-- division leaves takes its own. It gets smaller each time, so as many steps as it says are enough.
 unfoldable pub commonIn : ℕ → ℕ → ℕ → ℕ
 commonIn zero a b = a
 commonIn (suc steps) a b = cond (eqb b 0) a (commonIn steps b (a % b))

@@ -47,7 +47,8 @@ addedTo q t s =
     test (leb (t .packets + wholePackets s) packetsMost) 2
     (test (eqb (length s % packetSize) 0) 3 (accepted (plus t (loadOf q (packetsIn s)))))
 
--- A reading has four bytes for each place of the new cell list, in list order; the hits at each of n places between two readings.
+-- A file of readings has four bytes for each place of the new cell list, in list order; the hits at each of n places between the
+-- readings of two files.
 abbrev pub readingSize : ℕ
 readingSize = 4
 

@@ -1,5 +1,5 @@
 -- What the inner parts of a report answer: the code's loads and gains as mathematics has them. Assumes nothing.
-use Prim.Native.Nat.{ℕ, _+_, _*_, _≤_, _<_}
+use Prim.Native.Nat.{ℕ, _+_, _*_, _≤_}
 use Rattle.policy.specs.Fields.{limits}
 use Rattle.policy.specs.Refusals.{Outcome, accepted, refused, numberOf}
 use Rattle.origins.specs.declared.Trace.{Trace}
@@ -23,13 +23,7 @@ traceLoad (Gate rule number place) = load 1 (rule + 1) (1 + (place + 1)) 0
 traceLoad (Own passed rule place action) = load 1 (passed + 1 + (rule + 1)) (1 + (place + 1)) action
 traceLoad Nowhere = load 1 0 0 0
 
--- Its numbers are within the limits of the lists.
-unfoldable pub Brief : Trace → Type 0
-Brief (Gate rule number place) = (rule < limits .gate) × (place < limits .total)
-Brief (Own passed rule place action) = (passed < limits .gate) × (rule < limits .own) × (place < limits .total) × (action ≤ 1)
-Brief Nowhere = Unit {0}
-
--- The load of at most as many packets as a report takes, none of which tried more rules than the loaded lists have.
+-- The load of at most as many packets as a report takes, each with at most as many tries as the loaded lists can have rules.
 abbrev pub triesMost : ℕ
 triesMost = 1 + limits .total
 

@@ -3,7 +3,7 @@
 use mathlib.Core.Path.{_≡_}
 use mathlib.Core.List.{List, _++_}
 use mathlib.Core.Bool.{true}
-use Prim.Native.Nat.{ℕ, _+_, _*_, _%_, _≤_, _<_, _∣_}
+use Prim.Native.Nat.{ℕ, _+_, _*_, _%_, _<_, _∣_}
 use lib.ListN.{length}
 use Rattle.lists.specs.Lists.{Each}
 use Rattle.policy.specs.Fields.{limits}
@@ -13,8 +13,8 @@ use Rattle.policy.specs.Refusals.{accepted, andThen}
 use Rattle.policy.specs.Move.{Pair, gateList, cellList}
 use Rattle.wire.specs.Numbers.{Byte}
 use Rattle.promises.specs.Calls.{checkOf}
-use Rattle.load.specs.Load.{triesAfter, passed, Load, loadOf, plus, gainOf, round, hitsBetween}
-use Rattle.load.specs.Packets.{packetSize, packetIn, addedTo}
+use Rattle.load.specs.Load.{triesAfter, forwardedBy, Load, loadOf, plus, gainOf, round, hitsBetween}
+use Rattle.load.specs.Packets.{packetSize, packetsIn, addedTo}
 
 -- Blocks add up: the load of all packets is the sum of the loads of their parts.
 abbrev pub LoadAppendTheorem : Type 0
@@ -27,26 +27,29 @@ BlocksTheorem =
     (q : Pair) (t : Load) (block rest : List ℕ) → length block % packetSize ≡ 0
     → andThen (addedTo q t block) (λ u. addedTo q u rest) ≡ addedTo q t (block ++ rest)
 
--- A packet in bytes is inside the limits.
-abbrev pub PacketTheorem : Type 0
-PacketTheorem = (s : List ℕ) → Each Byte s → packetSize ≤ length s → inLimits (packetIn s) ≡ true
+-- Every whole packet in bytes is inside the limits.
+abbrev pub InLimits : Packet → Type 0
+InLimits p = inLimits p ≡ true
 
--- 02, W3: for a packet inside the limits, as every packet in bytes is, first match finds a place in the new cell list, and what is
--- counted after the move is 1 for the gate's one rule, and that place and 1.
+abbrev pub PacketsTheorem : Type 0
+PacketsTheorem = (s : List ℕ) → Each Byte s → Each InLimits (packetsIn s)
+
+-- 02, W3: for a packet inside the limits first match finds a place in the new cell list, and what is counted after the move is 1 for the
+-- gate's one rule, and that place and 1.
 pub record PlaceCounted (q : Pair) (p : Packet) : Type 0 where
   pub place : ℕ
   pub action : ℕ
-  pub found : first p (cellList q) ≡ found place action
+  pub finds : first p (cellList q) ≡ found place action
   pub counted : triesAfter q p ≡ 1 + (place + 1)
 
 abbrev pub AfterTheorem : Type 0
-AfterTheorem = (s : List ℕ) (q : Pair) → checkOf limits s ≡ accepted q → (p : Packet) → inLimits p ≡ true → PlaceCounted q p
+AfterTheorem = (s : List ℕ) (q : Pair) → checkOf limits s ≡ accepted q → (p : Packet) → InLimits p → PlaceCounted q p
 
 -- The packets that the loaded lists forward are those that A and B forward.
 abbrev pub ForwardedTheorem : Type 0
 ForwardedTheorem =
     (s : List ℕ) (q : Pair) → checkOf limits s ≡ accepted q → (ps : List Packet)
-    → passed (gateList q) (cellList q) ps ≡ passed (q .order .gate) (q .order .own) ps
+    → forwardedBy (gateList q) (cellList q) ps ≡ forwardedBy (q .order .gate) (q .order .own) ps
 
 -- The gain is before over after, and no number above 1 divides both its parts.
 pub record LowestGain (t : Load) : Type 0 where

@@ -13,17 +13,17 @@ ghost use lib.ListN.{length, drop};
 ghost use Rattle.policy.specs.Fields.{limits};
 ghost use Rattle.policy.specs.Values.{packetOf};
 ghost use Rattle.sheet.specs.Steps.{pairAt};
-ghost use Rattle.origins.specs.Steps.{Checked};
+ghost use Rattle.origins.specs.Steps.{Checked, TraceSmall};
 ghost use Rattle.rows.specs.Steps.{Tabled};
 ghost use Rattle.load.specs.Load.{loadOf, noLoad, plus, common, gainOf, hitsBetween};
 ghost use Rattle.load.specs.Packets.{packetSize, packetIn, packetsFrom, packetsMost, addedTo};
-ghost use Rattle.load.specs.Steps.{loadValue, gainValue, traceLoad, Brief, Bounded, addedHeard, OfSum};
+ghost use Rattle.load.specs.Steps.{loadValue, gainValue, traceLoad, Bounded, addedHeard, OfSum};
 
 // A packet has half a box's bytes: one number for each field.
 pub const PACKET_BYTES: usize = BOX_BYTES / 2;
 
 // The most packets of one report.
-pub const PACKETS_MOST: u64 = 1000000;
+pub const PACKETS_MOST: usize = 1000000;
 
 pub struct Load {
     pub packets: u64,
@@ -129,7 +129,7 @@ fn tries_to(place: usize) -> u64
 
 // The load of a traced packet. Before the move the cell tries no rule for a packet that the gate drops.
 fn load_traced(t: Trace) -> Load
-    requires { ⌜ Brief t ⌝ }
+    requires { ⌜ TraceSmall t ⌝ }
     ensures { λ r. ⌜ loadValue r ≡ traceLoad t ⌝ }
 {
     match t {
@@ -200,7 +200,7 @@ pub fn add_block(t: Load, block: &[u8], sheet: &[u8], layout: PairLayout, table:
     ensures { λ r. ⌜ (addedHeard r ≡ addedTo (pairAt layout (now (sheet .entry))) (loadValue t) (now (block .entry))) × OfSum Bounded r ⌝ }
 {
     let whole = block.len() / PACKET_BYTES;
-    if PACKETS_MOST - t.packets < whole as u64 {
+    if PACKETS_MOST as u64 - t.packets < whole as u64 {
         return Added::Refused(Refusal::CountOutside);
     }
     if block.len() % PACKET_BYTES != 0 {

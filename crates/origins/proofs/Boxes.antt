@@ -10,9 +10,8 @@ use Rattle.lists.specs.Lists.{Each}
 use Rattle.policy.specs.Fields.{recordSize, highest}
 use Rattle.policy.specs.Ranges.{Region, Packet, inside, Whole}
 use Rattle.policy.specs.Refusals.{rulesRefusal}
-use Rattle.policy.specs.Steps.{boxNumber}
+use Rattle.policy.specs.Steps.{boxNumber, regions}
 use Rattle.policy.proofs.Moves.{rulesRefusal-cons, rule-proper, proper-whole}
-use Rattle.policy.proofs.Origins.{regions}
 use Rattle.wire.specs.Records.{boxIn, ruleIn, rulesIn, eachIn}
 
 -- Boxes in bytes, each so many bytes behind the one before it, and none empty.

@@ -25,10 +25,11 @@ use Rattle.checking.specs.Steps.{CheckRead}
 use Rattle.checking.proofs.Checking.{check-laid}
 use Rattle.filter.specs.Lookup.{lookupNumber}
 use Rattle.origins.specs.Origin.{Decision, originOf, originSize, originCall, valueOf, Origins}
-use Rattle.origins.specs.Steps.{Checked, traceHeard, Traced, TraceSmall, TraceTold}
+use Rattle.origins.specs.Steps.{Checked, traceHeard, GateTraced, Traced, TraceSmall, TraceTold}
 use Rattle.origins.specs.declared.Trace.{Trace}
 use Rattle.origins.specs.declared.Trace.the-variants.{Gate, Own, Nowhere}
-use Rattle.origins.proofs.Deciding.{good, decided}
+use Rattle.filter.proofs.Lists.{found-small}
+use Rattle.origins.proofs.Deciding.{good, gate-clean, decided}
 
 -- a sheet whose layout check answers
 pub passes-check : {s : List ℕ} {l : PairLayout} → CheckRead s (P.Parts l) → Checked s l
@@ -37,7 +38,7 @@ passes-check x = record { checks = sym (x .says); laid = check-laid x }
 
 -- a trace's numbers are those of a place of the cell list
 pub traced-small : {s : List ℕ} {l : PairLayout} → Checked s l → (p : Packet) (t : Trace) → Traced p (pairAt l s) t → TraceSmall t
-unfolding traceHeard TraceSmall HasOrigin placeOf
+unfolding traceHeard GateTraced TraceSmall HasOrigin placeOf
 traced-small {s} {l} c p (Gate rule number place) x =
     let d = decided s (pairAt l s) (c .checks) p _ (sym (x .says)) in
     let g = readable (limits .gate) _ (good s (pairAt l s) (c .checks) .gate) in
@@ -45,7 +46,9 @@ traced-small {s} {l} c p (Gate rule number place) x =
 traced-small {s} {l} c p (Own passed rule place action) x =
     let d = decided s (pairAt l s) (c .checks) p _ (sym (x .says)) in
     let g = readable (limits .own) _ (good s (pairAt l s) (c .checks) .own) in
-    (omega (arith, d .has, g .many), d .place, d .action)
+    let a = readable (limits .gate) _ (good s (pairAt l s) (c .checks) .gate) in
+    let f = found-small p (pairAt l s .order .gate) passed 1 (gate-clean s (pairAt l s) (c .checks) .0) (x .gate) in
+    (omega (arith, f .0, a .many), omega (arith, d .has, g .many), d .place, d .action)
 traced-small c p Nowhere x = tt
 
 module _ (p : Packet) (s ns w : List ℕ) where

@@ -1,7 +1,7 @@
 -- Whose rule decides on a sheet that passes check: a box of the gate's rule, an own rule, or none. Assumes nothing.
 use mathlib.Core.Path.{_≡_, refl, ap, sym, _∙_, subst}
 use mathlib.Core.List.{List, [], _∷_}
-use mathlib.Core.Bool.{Bool, true, false}
+use mathlib.Core.Bool.{Bool, true, false, false≢true}
 use Prim.Native.Nat.{ℕ, zero, suc, _<_, _≤_}
 use native.Mathlib.Omega.{arith}
 use lib.Dec.{ltb}
@@ -16,12 +16,12 @@ use Rattle.policy.specs.Refusals.{accepted, refused, rulesRefusal}
 use Rattle.policy.specs.Move.{Pair, together, cellList}
 use Rattle.policy.specs.Demands.{groupAt}
 use Rattle.policy.specs.Origins.{Origin, gateRule, ownRule, originAt, placeOf, HasOrigin}
-use Rattle.policy.specs.Steps.{boxNumber}
+use Rattle.policy.specs.Steps.{boxNumber, regions}
 use Rattle.policy.proofs.Refused.{listRefusal}
 use Rattle.policy.proofs.Edits.{list-accepted}
 use Rattle.policy.proofs.Moves.{proper-whole, above-from, nothing-above}
 use Rattle.policy.proofs.Places.{place-back}
-use Rattle.policy.proofs.Origins.{regions, first-found, first-nothing, own-decides, box-there, box-decides}
+use Rattle.policy.proofs.Origins.{first-found, first-nothing, own-decides, box-there, box-decides}
 use Rattle.sheet.proofs.Outcomes.{readable}
 use Rattle.sheet.proofs.Pairs.{ProperGroup, PairGood, pair-good}
 use Rattle.promises.specs.Calls.{checkOf}
@@ -89,22 +89,27 @@ module _ (s : List ℕ) (q : Pair) (checks : checkOf limits s ≡ accepted q) wh
           at-origin p (box q) 0 has-box
           (subst (λ (x : Pair). first p (cellList x) ≡ found (placeOf x (box x)) 0) (sym (known .moved)) (box-decides (q .order) p (gate-clean .0) j dropped))
 
-    -- it allowed the packet: then it is inside the limits, and an own rule has it
-    module _ (j : ℕ) (allowed : first p (q .order .gate) ≡ found j 1) where
-      out-of-limits : inLimits p ≡ false → ⊥
-      out-of-limits h =
-          let e : nothing ≡ found j 1 = sym (above-from p (q .order .gate) 0 (gate-clean .0) h) ∙ allowed in
-          let z : _≡_ {A = ℕ} 0 1 = cc in
-          omega arith
+    -- a packet that A has a rule for is inside the limits
+    pub inside-found : (j a : ℕ) → first p (q .order .gate) ≡ found j a → inLimits p ≡ true
+    inside-found j a e = go (inLimits p) refl
+      where
+        go : (t : Bool) → inLimits p ≡ t → inLimits p ≡ true
+        go true h = h
+        go false h =
+            let w : nothing ≡ found j a = sym (above-from p (q .order .gate) 0 (gate-clean .0) h) ∙ e in
+            let z : _≡_ {A = ℕ} 0 1 = cc in
+            absurd (omega arith)
 
+    -- it allowed the packet: then an own rule has it
+    module _ (j : ℕ) (allowed : first p (q .order .gate) ≡ found j 1) where
       pub own-has : boxNumber p (regions (q .order .own)) < length (q .order .own)
       own-has = go (ltb (boxNumber p (regions (q .order .own))) (length (q .order .own))) refl
         where
           go : (t : Bool) → ltb (boxNumber p (regions (q .order .own))) (length (q .order .own)) ≡ t → boxNumber p (regions (q .order .own)) < length (q .order .own)
           go true h = ltb-true (boxNumber p (regions (q .order .own))) (length (q .order .own)) h
           go false h =
-              absurd (out-of-limits (nothing-above p (q .order .own) 0 (own-clean .0) (own-clean .1)
-              (first-nothing 0 p (q .order .own) (ltb-false (boxNumber p (regions (q .order .own))) (length (q .order .own)) h))))
+              let n = first-nothing 0 p (q .order .own) (ltb-false (boxNumber p (regions (q .order .own))) (length (q .order .own)) h) in
+              absurd (false≢true (sym (nothing-above p (q .order .own) 0 (own-clean .0) (own-clean .1) n) ∙ inside-found j 1 allowed))
 
       to-own : first p (cellList q) ≡ firstFrom (length (together (q .groups))) p (q .order .own)
       to-own =

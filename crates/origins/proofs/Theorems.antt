@@ -12,10 +12,10 @@ use Rattle.policy.specs.Refusals.{Outcome, accepted, refused}
 use Rattle.policy.specs.Move.{Pair, cellList}
 use Rattle.policy.specs.Demands.{groupAt}
 use Rattle.policy.specs.Origins.{Origin, gateRule, ownRule, placeOf, ruleFrom, HasOrigin}
-use Rattle.policy.specs.Steps.{boxNumber}
+use Rattle.policy.specs.Steps.{boxNumber, regions}
 use Rattle.policy.proofs.Moves.{above-from, nothing-above}
 use Rattle.policy.proofs.Places.{place-back}
-use Rattle.policy.proofs.Origins.{regions, number-has, first-found, found-number}
+use Rattle.policy.proofs.Origins.{number-has, first-found, found-number}
 use Rattle.sheet.proofs.Outcomes.{readable}
 use Rattle.filter.specs.Lookup.{hit, lookup, decidedBy}
 use Rattle.filter.proofs.Lists.{found-small, lookup-first}

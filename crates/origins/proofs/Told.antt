@@ -26,7 +26,7 @@ pub small-gate : {t : Trace} (rule number place : ℕ) → t ≡ Gate rule numbe
 unfolding TraceSmall
 small-gate rule number place e h = rw e at h
 
-pub small-own : {t : Trace} (passed rule place action : ℕ) → t ≡ Own passed rule place action → TraceSmall t → (rule < limits .own) × (place < limits .total) × (action ≤ 1)
+pub small-own : {t : Trace} (passed rule place action : ℕ) → t ≡ Own passed rule place action → TraceSmall t → (passed < limits .gate) × (rule < limits .own) × (place < limits .total) × (action ≤ 1)
 unfolding TraceSmall
 small-own passed rule place action e h = rw e at h
 

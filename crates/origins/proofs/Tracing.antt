@@ -16,9 +16,9 @@ use Rattle.policy.specs.Rules.{Rule, rule, isAllow, found, first, denies}
 use Rattle.policy.specs.Move.{Pair, together}
 use Rattle.policy.specs.Demands.{groupAt}
 use Rattle.policy.specs.Origins.{HasOrigin, placeOf}
-use Rattle.policy.specs.Steps.{boxNumber}
+use Rattle.policy.specs.Steps.{boxNumber, regions}
 use Rattle.policy.proofs.Kept.{deny-counts}
-use Rattle.policy.proofs.Origins.{regions, first-found, first-nothing}
+use Rattle.policy.proofs.Origins.{first-found, first-nothing}
 use Rattle.wire.specs.Records.{boxIn, ruleIn, rulesIn, eachIn}
 use Rattle.wire.specs.Lists.{countIn}
 use Rattle.wire.proofs.Records.{rulesIn-length, rule-in-place}

@@ -39,10 +39,10 @@ pub record Traced (p : Packet) (q : Pair) (r : Trace) : Type 0 where
   pub says : traceHeard r ≡ decision q (first p (cellList q))
   pub gate : GateTraced p (q .order .gate) r
 
--- The numbers that are told are within the limits of the lists.
+-- The numbers are within the limits of the lists.
 unfoldable pub TraceSmall : Trace → Type 0
 TraceSmall (Gate rule number place) = (rule < limits .gate) × (number < limits .total) × (place < limits .total)
-TraceSmall (Own passed rule place action) = (rule < limits .own) × (place < limits .total) × (action ≤ 1)
+TraceSmall (Own passed rule place action) = (passed < limits .gate) × (rule < limits .own) × (place < limits .total) × (action ≤ 1)
 TraceSmall Nowhere = Unit {0}
 
 -- A trace told: the answer, and the numbers written.

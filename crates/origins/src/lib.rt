@@ -101,7 +101,7 @@ fn trace_own(p: Packet, sheet: &[u8], layout: PairLayout, passed: usize) -> Trac
 }
 
 // One packet on a sheet that passes check. What no rule of A has is outside the limits, and then no rule of the cell list has it.
-pub fn trace_packet(p: Packet, sheet: &[u8], layout: PairLayout) -> Trace
+fn trace_packet(p: Packet, sheet: &[u8], layout: PairLayout) -> Trace
     requires { ⌜ Checked (now sheet) layout ⌝ }
     ensures { λ r. ⌜ Traced (packetOf p) (pairAt layout (now (sheet .entry))) r ⌝ }
 {

@@ -19,7 +19,7 @@ use Rattle.policy.specs.Refusals.{rulesRefusal}
 use Rattle.policy.specs.Move.{anew, startOf, slots, boxesOf, together, Order, moved, denials, cellList}
 use Rattle.policy.specs.Demands.{groupAt}
 use Rattle.policy.specs.Origins.{gateRule, placeOf, HasOrigin}
-use Rattle.policy.specs.Steps.{boxNumber}
+use Rattle.policy.specs.Steps.{boxNumber, regions}
 use Rattle.policy.proofs.Moves.{Starts, rule-proper, proper-whole, rulesRefusal-cons, any-append, group-has, alone-hits, boxes-cover-what-the-gate-dropped}
 
 -- a box that has the packet has a number
@@ -82,9 +82,6 @@ number-together p (g ∷ gs) (suc k) h e =
     (rw (any-append p g (together gs), f .0) (i .0), rw (number-append p g (together gs), f .0) (omega arith))
 
 -- First match by the number of the first rule whose box has the packet.
-abbrev pub regions : List Rule → List Region
-regions l = map (λ (r : Rule). r .region) l
-
 pub first-found : (n : ℕ) (p : Packet) (l : List Rule) (d : Rule) → boxNumber p (regions l) < length l
     → firstFrom n p l ≡ found (n + boxNumber p (regions l)) (getD l (boxNumber p (regions l)) d .action)
 unfolding firstFrom boxNumber

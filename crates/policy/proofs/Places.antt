@@ -8,6 +8,8 @@ use lib.Dec.{ltb}
 use lib.ListN.{length, getD, take, length-append, List·getD-append}
 use lib.Seq.{getD-append-add}
 use borrow.Author.Tests.{lt-ltb, le-ltb, ltb-true, ltb-false}
+use Rattle.lists.specs.Lists.{Each}
+use Rattle.lists.proofs.Lists.{each-append}
 use Rattle.policy.specs.Ranges.{Region}
 use Rattle.policy.specs.Rules.{Rule, rule, isAllow, denies}
 use Rattle.policy.specs.Move.{Pair, together, denials, cellList}
@@ -19,6 +21,12 @@ front l gs i = together (take (denies (take i l)) gs)
 
 abbrev groupOf : List Rule → List (List Region) → ℕ → List Region
 groupOf l gs i = getD gs (denies (take i l)) []
+
+-- what holds of every box of every group holds of all boxes
+pub together-each : (P : Region → Type 0) (gs : List (List Region)) → Each (Each P) gs → Each P (together gs)
+unfolding Each together
+together-each P [] h = tt
+together-each P (g ∷ gs) h = each-append P g (together gs) (h .0) (together-each P gs (h .1))
 
 -- behind all boxes stand the own rules
 walk-own : (j : ℕ) (l : List Rule) (gs : List (List Region)) (i : ℕ) → length gs ≡ denies l → originFrom j l gs (length (together gs) + i) ≡ ownRule i

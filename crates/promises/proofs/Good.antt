@@ -9,7 +9,7 @@ use lib.ListN.{length, drop, length-append, length-map}
 use lib.Seq.{drop-at}
 use borrow.Author.Tests.{ltb-false, le-ltb}
 use Rattle.lists.specs.Lists.{Each, everyBoth}
-use Rattle.lists.proofs.Lists.{each-append, each-drop, each-imp, every-each, map-append}
+use Rattle.lists.proofs.Lists.{each-drop, each-imp, every-each, map-append}
 use Rattle.policy.specs.Fields.{highest, boxSize, countSize, Limits, limits}
 use Rattle.policy.specs.Ranges.{Region, proper, fullOver}
 use Rattle.policy.specs.Rules.{Rule, sound, complete, allowsIn, Proper}
@@ -18,7 +18,7 @@ use Rattle.policy.specs.Move.{Slot, slots, slotsOf, startOf, boxesOf, together,
 use Rattle.policy.proofs.Refused.{listRefusal, moveRefusal}
 use Rattle.policy.proofs.Numbers.{orElse-zero, orElse-both, given-zero}
 use Rattle.policy.proofs.Proper.{moved-proper}
-use Rattle.policy.proofs.Places.{cell-length}
+use Rattle.policy.proofs.Places.{cell-length, together-each}
 use Rattle.policy.proofs.Edits.{slots-append, move-accepted, list-accepted, slots-length, rulesRefusal-append}
 use Rattle.wire.proofs.Numbers.{numberBytes-length}
 use Rattle.sheet.specs.Orders.{orderBytes}
@@ -89,11 +89,6 @@ denials-sound : (bs : List Region) → Each Proper bs → rulesRefusal (denials 
 unfolding denials rulesRefusal sound Each
 denials-sound [] h = refl
 denials-sound (b ∷ bs) h = rw (h .0) (denials-sound bs (h .1))
-
-together-each : (P : Region → Type 0) (gs : List (List Region)) → Each (Each P) gs → Each P (together gs)
-unfolding Each together
-together-each P [] h = tt
-together-each P (g ∷ gs) h = each-append P g (together gs) (h .0) (together-each P gs (h .1))
 
 list-none : (most : ℕ) (l : List Rule) → 1 ≤ length l → length l ≤ most → rulesRefusal l ≡ 0 → complete l ≡ true → listRefusal most l ≡ 0
 unfolding listRefusal

@@ -10,14 +10,14 @@ use Rattle.load.specs.declared.Added.the-variants as A
 use Rattle.report.specs.Steps.{Within, GoesOn}
 use Rattle.report.specs.declared.FileRead.{FileRead}
 use Rattle.report.specs.declared.FileRead.the-variants as F
-use Rattle.report.specs.declared.Block.{Block}
-use Rattle.report.specs.declared.Block.the-variants as B
+use Rattle.report.specs.declared.Counted.{Counted}
+use Rattle.report.specs.declared.Counted.the-variants as C
 
 pub bytes-within : (s : List ℕ) {r : FileRead} {n : ℕ} → r ≡ F.Bytes n → Within s r → n ≤ length s
 unfolding Within
 bytes-within s e h = rw e at h
 
-pub more-bounded : {r : Block} {t : Load} → r ≡ B.More t → GoesOn r → Bounded (loadValue t)
+pub more-bounded : {r : Counted} {t : Load} → r ≡ C.More t → GoesOn r → Bounded (loadValue t)
 unfolding GoesOn
 more-bounded e h = rw e at h
 

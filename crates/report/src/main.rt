@@ -1,10 +1,12 @@
-// Prints the load report of four files: a pair sheet, packets, and an earlier and a later reading of the cell filter's counters. The
-// packets are read a block at a time, so that memory does not grow with them, and nothing is printed before the last one is counted.
+// Prints the load report of four files: a pair sheet, packets, and earlier and later readings of the cell filter's counters. The packets
+// are read a block at a time, so that memory does not grow with them, and nothing is printed before the last one is counted.
 use groups::WORK_BYTES;
 use libc::PATH_MAX;
 use libc::STDOUT_FILENO;
 use load::Added;
 use load::Load;
+use load::PACKET_BYTES;
+use load::PACKETS_MOST;
 use policy::Refusal;
 use printing::print_number;
 use printing::print_refusal;
@@ -34,9 +36,9 @@ const EARLIER: usize = 3;
 const LATER: usize = 4;
 
 // A block fills the work buffer, and is of whole packets. So many blocks have more packets than a report may.
-const BLOCKS_MOST: usize = 245;
+const BLOCKS_MOST: usize = PACKETS_MOST * PACKET_BYTES / WORK_BYTES + 1;
 
-// The readings of the longest list.
+// The bytes of a file of readings for the longest list.
 const READINGS_BYTES: usize = READING_BYTES * HITS_NUMBERS;
 
 struct Files {
@@ -53,7 +55,7 @@ enum FileRead {
 }
 
 // The load with a block added, behind which others may come or none does; or why there is none.
-enum Block {
+enum Counted {
     More(Load),
     Last(Load),
     Refused(Refusal),
@@ -106,48 +108,48 @@ fn add_next(
     layout: PairLayout,
     table: &[u32],
     block: &mut [u8],
-) -> Block
+) -> Counted
     requires { ⌜ Checked (now sheet) layout × Tabled (now sheet) layout (now table) × Bounded (loadValue t) ⌝ }
     ensures { λ r. ⌜ GoesOn r ⌝ }
 {
     match read_file(fd, block) {
-        FileRead::Failed => Block::Failed,
+        FileRead::Failed => Counted::Failed,
         FileRead::Bytes(n) => match load::add_block(t, &block[..n], sheet, layout, table) {
-            Added::Refused(f) => Block::Refused(f),
+            Added::Refused(f) => Counted::Refused(f),
             Added::Sum(sum) => {
                 if n < block.len() {
-                    return Block::Last(sum);
+                    return Counted::Last(sum);
                 }
-                Block::More(sum)
+                Counted::More(sum)
             }
         },
     }
 }
 
 // All blocks added, or as many of them as have more packets than a report may.
-fn add_all(fd: i32, sheet: &[u8], layout: PairLayout, table: &[u32], block: &mut [u8]) -> Block
+fn add_all(fd: i32, sheet: &[u8], layout: PairLayout, table: &[u32], block: &mut [u8]) -> Counted
     requires { ⌜ Checked (now sheet) layout × Tabled (now sheet) layout (now table) ⌝ }
 {
     let mut sum = Load::none();
     let mut left = BLOCKS_MOST;
     while 0 < left {
         match add_next(fd, sum, sheet, layout, table, block) {
-            Block::More(t) => {
+            Counted::More(t) => {
                 sum = t;
             }
-            Block::Last(t) => {
-                return Block::Last(t);
+            Counted::Last(t) => {
+                return Counted::Last(t);
             }
-            Block::Refused(f) => {
-                return Block::Refused(f);
+            Counted::Refused(f) => {
+                return Counted::Refused(f);
             }
-            Block::Failed => {
-                return Block::Failed;
+            Counted::Failed => {
+                return Counted::Failed;
             }
         }
         left -= 1;
     }
-    Block::More(sum)
+    Counted::More(sum)
 }
 
 fn print_total(name: &[u8], n: u64) {
@@ -189,7 +191,7 @@ fn print_hits(earlier: &[u8], later: &[u8], places: usize)
     }
 }
 
-// The readings' lengths, then the packets.
+// The lengths of both files of readings, then the packets.
 fn print_loaded(
     packets: i32,
     sheet: &[u8],
@@ -201,24 +203,24 @@ fn print_loaded(
     requires { ⌜ Checked (now sheet) layout ⌝ }
 {
     let places = layout.boxes + layout.order.own;
-    if reporting::are_readings(earlier, later, places) {
-        let mut table = [0u32; TABLE_NUMBERS];
-        rows::put_table(sheet, layout, &mut table);
-        match add_all(packets, sheet, layout, &table, block) {
-            Block::Failed => print_unread(PACKETS),
-            Block::Refused(f) => print_refusal(f),
-            Block::More(_) => print_refusal(Refusal::CountOutside),
-            Block::Last(t) => {
-                print_load(t);
-                print_hits(earlier, later, places);
-            }
-        }
-    } else {
+    if !reporting::are_readings(earlier, later, places) {
         print_refusal(Refusal::LengthWrong);
+        return;
+    }
+    let mut table = [0u32; TABLE_NUMBERS];
+    rows::put_table(sheet, layout, &mut table);
+    match add_all(packets, sheet, layout, &table, block) {
+        Counted::Failed => print_unread(PACKETS),
+        Counted::Refused(f) => print_refusal(f),
+        Counted::More(_) => print_refusal(Refusal::CountOutside),
+        Counted::Last(t) => {
+            print_load(t);
+            print_hits(earlier, later, places);
+        }
     }
 }
 
-// One byte more than the longest list's readings tells that a file is too long.
+// One byte more than the readings of the longest list tells that a file is too long.
 fn print_checked(files: Files, sheet: &[u8], layout: PairLayout, block: &mut [u8])
     requires { ⌜ Checked (now sheet) layout ⌝ }
 {

@@ -31,7 +31,6 @@ use Rattle.load.specs.Steps.{Bounded, loadValue, addedHeard}
 use Rattle.load.specs.declared.Load.{Load as LoadValue}
 use Rattle.load.specs.declared.Added.the-variants as A
 use Rattle.reporting.specs.Report.{places, areReadings, loadedOf, reportOf, totalsSize, totalsOf, hitsSize, allLent, reportCall, Reports}
-use Rattle.reporting.specs.Steps.{totalsOfLoad}
 use Rattle.reporting.proofs.Hits.{hits-length}
 
 -- The places are the boxes and the own rules.
@@ -105,8 +104,8 @@ module _ (s packets earlier later ts hs w : List ℕ) where
           }
 
           pub report-told : (t : LoadValue) (n : ℕ) {ts′ hs′ : List ℕ} → n ≡ places (pairAt l s) → addedHeard (A.Sum t) ≡ loadedOf (pairAt l s) packets earlier later
-              → ts′ ≡ sets ts 0 (totalsOfLoad (loadValue t)) → hs′ ≡ filled hitsSize hs (hitsIn n earlier later) → Reports s packets earlier later ts hs w (Length n) ts′ hs′ w′
-          unfolding reportCall reportOf lengthOf written workAfter addedHeard totalsOf totalsOfLoad
+              → ts′ ≡ sets ts 0 (totalsOf (loadValue t)) → hs′ ≡ filled hitsSize hs (hitsIn n earlier later) → Reports s packets earlier later ts hs w (Length n) ts′ hs′ w′
+          unfolding reportCall reportOf lengthOf written workAfter addedHeard totalsOf
           report-told load n are x totals-put hits-put = record {
             answer = rw (lent, c .checks, ← x) (ap accepted (are ∙ sym (hits-length (places (pairAt l s)) earlier later)));
             totals = rw (lent, c .checks, ← x) (totals-put ∙ filled-front totalsSize ts _ refl t);

@@ -4,10 +4,9 @@ use mathlib.Core.List.{List, [], _∷_, _++_, append-assoc}
 use mathlib.Core.Bool.{true}
 use Prim.Native.Nat.{ℕ, zero, suc, _+_, _*_, _-_, _≤_, _<_}
 use native.Mathlib.Omega.{arith}
-use native.Mathlib.Numerals.{add-one}
 use lib.Dec.{eqb}
-use lib.ListN.{length, getD, set, take, drop, replicate, length-append, length-replicate}
-use lib.Seq.{sets, sets-eq, drop-cons, drop-drop}
+use lib.ListN.{length, getD, take, drop, replicate, length-append, length-replicate}
+use lib.Seq.{sets, sets-eq, drop-drop}
 use borrow.Author.Tests.{eqb-true}
 use Rattle.lists.proofs.Tests.{and-true}
 use Rattle.wire.specs.Numbers.{numberIn}
@@ -72,8 +71,3 @@ module _ (size : ℕ) (l : List ℕ) (short : length l ≤ size) where
       let n = padded-length in
       let m : 0 + length (padded size l) ≡ size = omega (arith, n) in
       sets-eq (padded size l) out 0 (omega (arith, n)) ∙ rw m (append-assoc l (replicate (size - length l) 0) (drop size out))
-
--- One number more of those to put.
-pub number-put : (out values : List ℕ) (k x : ℕ) (whole : List ℕ) → k < length values → x ≡ getD values k 0 → sets out k (drop k values) ≡ whole
-    → sets (set out k x) (k + 1) (drop (k + 1) values) ≡ whole
-number-put out values k x whole h e inv = rw (e, add-one) (rw (drop-cons values k 0 h) at inv)

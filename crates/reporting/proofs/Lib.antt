@@ -1,2 +1,3 @@
 pub mod Hits
 pub mod Calls
+pub mod Theorems

@@ -1,4 +1,4 @@
-// The load report over a pair sheet that passes check, the packets of a capture, and two readings of the filter's counters.
+// The load report over a pair sheet that passes check, packets, and two files of readings of the filter's counters.
 use groups::WORK_BYTES;
 use load::Added;
 use load::Load;
@@ -18,8 +18,7 @@ ghost use Rattle.sheet.specs.Steps.{pairAt};
 ghost use Rattle.origins.specs.Steps.{Checked};
 ghost use Rattle.load.specs.Packets.{hitsIn};
 ghost use Rattle.load.specs.Steps.{loadValue, addedHeard};
-ghost use Rattle.reporting.specs.Report.{areReadings, loadedOf, totalsSize, hitsSize, Reports};
-ghost use Rattle.reporting.specs.Steps.{totalsOfLoad};
+ghost use Rattle.reporting.specs.Report.{areReadings, loadedOf, totalsSize, totalsOf, hitsSize, Reports};
 
 // The fewest numbers that may be lent: the totals, and a number of hits for each place that a list can have.
 pub const TOTALS_NUMBERS: usize = 6;
@@ -65,7 +64,7 @@ fn put_hits(hits: &mut [u32], earlier: &[u8], later: &[u8], places: usize)
 
 fn put_totals(totals: &mut [u64], t: Load)
     requires { ⌜ totalsSize ≤ length (now totals) ⌝ }
-    ensures { λ r. ⌜ now (totals .exit) ≡ sets (now (totals .entry)) 0 (totalsOfLoad (loadValue t)) ⌝ }
+    ensures { λ r. ⌜ now (totals .exit) ≡ sets (now (totals .entry)) 0 (totalsOf (loadValue t)) ⌝ }
 {
     let gain = t.gain();
     totals[0] = t.packets;
@@ -76,17 +75,17 @@ fn put_totals(totals: &mut [u64], t: Load)
     totals[5] = gain.denominator;
 }
 
-// The readings' lengths before any packet.
+// The lengths of both files of readings before any packet.
 fn load_all(sheet: &[u8], layout: PairLayout, packets: &[u8], earlier: &[u8], later: &[u8]) -> Added
     requires { ⌜ Checked (now sheet) layout ⌝ }
     ensures { λ r. ⌜ addedHeard r ≡ loadedOf (pairAt layout (now (sheet .entry))) (now (packets .entry)) (now (earlier .entry)) (now (later .entry)) ⌝ }
 {
-    if are_readings(earlier, later, layout.boxes + layout.order.own) {
-        let mut table = [0u32; TABLE_NUMBERS];
-        rows::put_table(sheet, layout, &mut table);
-        return load::add_block(Load::none(), packets, sheet, layout, &table);
+    if !are_readings(earlier, later, layout.boxes + layout.order.own) {
+        return Added::Refused(Refusal::LengthWrong);
     }
-    Added::Refused(Refusal::LengthWrong)
+    let mut table = [0u32; TABLE_NUMBERS];
+    rows::put_table(sheet, layout, &mut table);
+    load::add_block(Load::none(), packets, sheet, layout, &table)
 }
 
 // The report: check, the readings' lengths, the packets; then the totals and the hits at each place of the cell list.

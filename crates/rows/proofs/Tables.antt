@@ -15,9 +15,9 @@ use Rattle.policy.specs.Refusals.{rulesRefusal}
 use Rattle.policy.specs.Move.{Pair, together}
 use Rattle.policy.specs.Demands.{groupAt}
 use Rattle.policy.specs.Origins.{HasOrigin, placeOf}
-use Rattle.policy.specs.Steps.{boxNumber}
+use Rattle.policy.specs.Steps.{boxNumber, regions}
 use Rattle.policy.proofs.Moves.{rulesRefusal-cons, rule-proper}
-use Rattle.policy.proofs.Origins.{regions}
+use Rattle.policy.proofs.Places.{together-each}
 use Rattle.wire.specs.Records.{boxIn, eachIn}
 use Rattle.wire.proofs.Items.{bytes-append}
 use Rattle.wire.proofs.Records.{rulesIn-length}
@@ -55,11 +55,6 @@ module _ {A : Type 0} (size : ℕ) (read : List ℕ → A) where
 each-stretch : {A : Type 0} (P : A → Type 0) (x g y : List A) → Each P (x ++ (g ++ y)) → Each P g
 each-stretch P x g y h =
     rw (drop-at x (g ++ y) (length x) refl, take-at g y (length g) refl) at (each-take P (length g) (drop (length x) (x ++ (g ++ y))) (each-drop P (length x) (x ++ (g ++ y)) h))
-
-together-each : (P : Region → Type 0) (gs : List (List Region)) → Each (Each P) gs → Each P (together gs)
-unfolding Each together
-together-each P [] h = tt
-together-each P (g ∷ gs) h = each-append P g (together gs) (h .0) (together-each P gs (h .1))
 
 -- The boxes of rules of which none is bad are proper.
 rules-proper : (rs : List Rule) → rulesRefusal rs ≡ 0 → Each Proper (regions rs)

@@ -1,4 +1,4 @@
--- One turn of a loop over boxes, over rows, and over groups. Assumes nothing.
+-- One turn of a loop over rows and over groups. Assumes nothing.
 use mathlib.Core.Path.{_≡_, refl, ap, subst, _∙_}
 use mathlib.Core.List.{List, [], _∷_, _++_}
 use mathlib.Core.Bool.{true, false}
@@ -15,29 +15,12 @@ use Rattle.policy.specs.Move.{together}
 use Rattle.policy.specs.Steps.{boxNumber}
 use Rattle.wire.specs.Lists.{countIn}
 use Rattle.wire.specs.Records.{boxIn, eachIn, eachBytes}
-use Rattle.wire.proofs.Items.{bytes-append}
+use Rattle.wire.proofs.Items.{bytes-append, items-turn}
 use Rattle.wire.proofs.Records.{boxesIn-length}
 use Rattle.sheet.specs.Pairs.{groupSize}
 use Rattle.sheet.specs.Steps.{groupsFrom}
 use Rattle.rows.specs.Steps.{rowSize, rowNumbers, rowsNumbers}
 use Rattle.rows.proofs.Rows.{row-length, rows-length}
-
--- Items in a list of numbers, some of them left.
-module _ {A : Type 0} (size : ℕ) (read : List ℕ → A) (s : List ℕ) (start left : ℕ) (some : 0 < left) where
-  pub items-turn : eachIn size read left (drop start s) ≡ read (drop start s) ∷ eachIn size read (left - 1) (drop (start + size) s)
-  unfolding eachIn
-  items-turn =
-      let e : left ≡ suc (left - 1) = omega arith in
-      ap (λ (n : ℕ). eachIn size read n (drop start s)) e ∙ ap (λ (t : List ℕ). read (drop start s) ∷ eachIn size read (left - 1) t) (drop-drop size start s)
-
-  pub each-turn : (P : A → Type 0) → Each P (eachIn size read left (drop start s)) → P (read (drop start s)) × Each P (eachIn size read (left - 1) (drop (start + size) s))
-  unfolding Each
-  each-turn P h = subst (Each P) items-turn h
-
-  pub size-turn : size * left ≡ size + size * (left - 1)
-  size-turn =
-      let e : left ≡ suc (left - 1) = omega arith in
-      ap (λ (n : ℕ). size * n) e ∙ omega arith
 
 -- Groups in bytes, some of them left: the boxes of the first, and the later ones.
 module _ (s : List ℕ) (start left : ℕ) (some : 0 < left) (count : ℕ) (told : count ≡ countIn (drop start s)) where
@@ -94,11 +77,6 @@ module _ (p : Packet) (all n left : ℕ) (b : Region) (bs : List Region) (is : a
   turn-misses h m some = let e : boxNumber p (b ∷ bs) ≡ suc (boxNumber p bs) = rw h in omega (arith, is)
 
 -- None is left.
-pub items-none : {A : Type 0} (size : ℕ) (read : List ℕ → A) (s : List ℕ) (left : ℕ) → left ≤ 0 → eachIn size read left s ≡ []
-unfolding eachIn
-items-none size read s zero h = refl
-items-none size read s (suc left) h = absurd (omega arith)
-
 pub groups-none : (s : List ℕ) (left : ℕ) → left ≤ 0 → groupsFrom left s ≡ []
 unfolding groupsFrom
 groups-none s zero h = refl

@@ -1,12 +1,13 @@
 -- A pair sheet's rules as rows of numbers: what a row says, and what a table of rows has. Assumes nothing.
 use mathlib.Core.Path.{_≡_}
-use mathlib.Core.List.{List, [], _∷_, _++_, map}
+use mathlib.Core.List.{List, [], _∷_, _++_}
 use Prim.Native.Nat.{ℕ, _+_, _*_, _-_, _≤_}
 use lib.ListN.{length, getD, take}
 use Rattle.policy.specs.Fields.{fields, highest, limits}
 use Rattle.policy.specs.Ranges.{range, Region}
-use Rattle.policy.specs.Rules.{Rule, denies}
+use Rattle.policy.specs.Rules.{denies}
 use Rattle.policy.specs.Move.{Pair, together}
+use Rattle.policy.specs.Steps.{regions}
 use Rattle.wire.specs.Records.{eachBytes, eachIn}
 use Rattle.sheet.specs.Steps.{pairAt}
 use Rattle.sheet.specs.declared.PairLayout.{PairLayout}
@@ -44,11 +45,8 @@ abbrev pub rowsIn : ℕ → List ℕ → List Region
 rowsIn n t = eachIn rowSize rowIn n t
 
 -- The boxes of a pair: A's, in order, and those of the cell list, in order: of every group, then of the own rules.
-abbrev boxOf : Rule → Region
-boxOf r = r .region
-
 unfoldable pub allBoxes : Pair → List Region
-allBoxes q = map boxOf (q .order .gate) ++ (together (q .groups) ++ map boxOf (q .order .own))
+allBoxes q = regions (q .order .gate) ++ (together (q .groups) ++ regions (q .order .own))
 
 -- A front: how many boxes stand before the group of the rule at a place of A; at A's end, how many boxes there are.
 abbrev pub frontOf : Pair → ℕ → ℕ

@@ -1,5 +1,5 @@
 -- Items of a fixed size, one after another in bytes: laws for anything that is written and read so. Assumes nothing.
-use mathlib.Core.Path.{_≡_, refl, ap, sym, _∙_}
+use mathlib.Core.Path.{_≡_, refl, ap, sym, subst, _∙_}
 use mathlib.Core.List.{List, [], _∷_, _++_, append-assoc}
 use Prim.Native.Nat.{ℕ, zero, suc, _+_, _*_, _-_, _<_, _≤_}
 use native.Mathlib.Omega.{arith}
@@ -15,6 +15,35 @@ pub bytes-append : {A : Type 0} (write : A → List ℕ) (x y : List A) → each
 unfolding eachBytes
 bytes-append write [] y = refl
 bytes-append write (a ∷ x) y = rw (bytes-append write x y) (sym (append-assoc (write a) (eachBytes write x) (eachBytes write y)))
+
+-- As many are read as are asked for.
+pub items-count : {A : Type 0} (size : ℕ) (read : List ℕ → A) (n : ℕ) (s : List ℕ) → length (eachIn size read n s) ≡ n
+unfolding eachIn
+items-count size read zero s = refl
+items-count size read (suc n) s = ap suc (items-count size read n (drop size s))
+
+-- Items in a list of numbers, some of them left to read.
+module _ {A : Type 0} (size : ℕ) (read : List ℕ → A) (s : List ℕ) (start left : ℕ) (some : 0 < left) where
+  pub items-turn : eachIn size read left (drop start s) ≡ read (drop start s) ∷ eachIn size read (left - 1) (drop (start + size) s)
+  unfolding eachIn
+  items-turn =
+      let e : left ≡ suc (left - 1) = omega arith in
+      ap (λ (n : ℕ). eachIn size read n (drop start s)) e ∙ ap (λ (t : List ℕ). read (drop start s) ∷ eachIn size read (left - 1) t) (drop-drop size start s)
+
+  pub each-turn : (P : A → Type 0) → Each P (eachIn size read left (drop start s)) → P (read (drop start s)) × Each P (eachIn size read (left - 1) (drop (start + size) s))
+  unfolding Each
+  each-turn P h = subst (Each P) items-turn h
+
+  pub size-turn : size * left ≡ size + size * (left - 1)
+  size-turn =
+      let e : left ≡ suc (left - 1) = omega arith in
+      ap (λ (n : ℕ). size * n) e ∙ omega arith
+
+-- None is left.
+pub items-none : {A : Type 0} (size : ℕ) (read : List ℕ → A) (s : List ℕ) (left : ℕ) → left ≤ 0 → eachIn size read left s ≡ []
+unfolding eachIn
+items-none size read s zero h = refl
+items-none size read s (suc left) h = absurd (omega arith)
 
 -- How one item is written and read, and what is known of it.
 pub record Items (A : Type 0) : Type 1 where
@@ -42,9 +71,7 @@ module _ {A : Type 0} (i : Items A) where
       rw (length-append, i .written-length a (h .0), n) (omega arith)
 
   pub items-read-length : (n : ℕ) (s : List ℕ) → length (readAll n s) ≡ n
-  unfolding eachIn
-  items-read-length zero s = refl
-  items-read-length (suc n) s = ap suc (items-read-length n (drop (i .size) s))
+  items-read-length n s = items-count (i .size) (i .read) n s
 
   -- Items are read back.
   pub items-back : (l : List A) (rest : List ℕ) → Each (i .Good) l → readAll (length l) (writeAll l ++ rest) ≡ l

@@ -2,7 +2,8 @@
 use borrow.Author.Needs.{needs}
 use mathlib.Core.Path.{sym, _∙_, subst}
 use Rattle.load.specs.Steps.{Bounded}
-use Rattle.load.proofs.Traces.{traced-load, traced-brief, brief-bounded}
+use Rattle.origins.proofs.Calls.{traced-small}
+use Rattle.load.proofs.Traces.{traced-load, trace-bounded}
 use Rattle.load.proofs.load_one.Statement.{statement}
 use Rattle.load.proofs.load_one.Tie as tie
 
@@ -10,14 +11,14 @@ trace-row-requires : tie.Need-trace-row-requires
 trace-row-requires c κs = search needs
 
 load-traced-requires : tie.Need-load-traced-requires
-load-traced-requires c κs = traced-brief (c .before .before .before .pre .0) _ _ (c .trace-row .ensures)
+load-traced-requires c κs = traced-small (c .before .before .before .pre .0) _ _ (c .trace-row .ensures)
 
 returns : tie.Need-returns
 returns c =
     let p = c .before .before .before .before .pre .0 in
     let e = c .load-traced .ensures in
     let x = c .before .trace-row .ensures in
-    (e ∙ traced-load p _ _ x, subst Bounded (sym e) (brief-bounded _ (traced-brief p _ _ x)))
+    (e ∙ traced-load p _ _ x, subst Bounded (sym e) (trace-bounded _ (traced-small p _ _ x)))
 
 pub load-one-spec : {M : Type 1} → statement M
 load-one-spec = tie.close (tie.spec trace-row-requires load-traced-requires returns)

@@ -1,7 +1,8 @@
 -- `load_traced` meets its contract. Assumes nothing.
 use borrow.Author.Needs.{needs}
 use native.Mathlib.Omega.{arith}
-use Rattle.load.proofs.Traces.{brief-gate, brief-own, gate-load, own-load, nowhere-load}
+use Rattle.origins.proofs.Told.{small-gate, small-own}
+use Rattle.load.proofs.Traces.{gate-load, own-load, nowhere-load}
 use Rattle.load.proofs.load_traced.Statement.{statement}
 use Rattle.load.proofs.load_traced.Tie as tie
 
@@ -9,22 +10,22 @@ enum-known-t : tie.Need-enum-known-t
 enum-known-t c = search needs
 
 add-t9 : tie.Need-add-t9
-add-t9 c = let f = brief-gate _ _ _ (c .before .t .given .1) (c .before .before .before .pre) in omega (arith, f .0)
+add-t9 c = let f = small-gate _ _ _ (c .before .t .given .1) (c .before .before .before .pre) in omega (arith, f .0)
 
 tries-to-requires : tie.Need-tries-to-requires
-tries-to-requires c κs = brief-gate _ _ _ (c .before .t .given .1) (c .before .before .before .pre) .1
+tries-to-requires c κs = small-gate _ _ _ (c .before .t .given .1) (c .before .before .before .pre) .2
 
 enum-known-t-2 : tie.Need-enum-known-t-2
 enum-known-t-2 c = search needs
 
 add-t12 : tie.Need-add-t12
-add-t12 c = let f = brief-own _ _ _ _ (c .before .t2 .given .1) (c .before .before .before .pre) in omega (arith, f .0, f .1)
+add-t12 c = let f = small-own _ _ _ _ (c .before .t2 .given .1) (c .before .before .before .pre) in omega (arith, f .0, f .1)
 
 add-t13 : tie.Need-add-t13
-add-t13 c = let f = brief-own _ _ _ _ (c .before .t2 .given .1) (c .before .before .before .pre) in omega (arith, f .0, f .1)
+add-t13 c = let f = small-own _ _ _ _ (c .before .t2 .given .1) (c .before .before .before .pre) in omega (arith, f .0, f .1)
 
 tries-to-requires-2 : tie.Need-tries-to-requires-2
-tries-to-requires-2 c κs = brief-own _ _ _ _ (c .before .t2 .given .1) (c .before .before .before .pre) .2
+tries-to-requires-2 c κs = small-own _ _ _ _ (c .before .t2 .given .1) (c .before .before .before .pre) .2
 
 cast-t16 : tie.Need-cast-t16
 cast-t16 c = search needs

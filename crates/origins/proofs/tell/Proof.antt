@@ -25,7 +25,7 @@ enum-known-t-2 c = search needs
 put-origin-requires-2 : tie.Need-put-origin-requires-2
 put-origin-requires-2 c κs =
     let f = small-own _ _ _ _ (c .before .before .t2 .given .1) (c .before .before .before .before .before .pre .1) in
-    (c .before .before .before .before .before .pre .0, omega (arith, f .0, f .1), omega arith)
+    (c .before .before .before .before .before .pre .0, omega (arith, f .1, f .2), omega arith)
 
 mul-value-2 : tie.Need-mul-value-2
 mul-value-2 c =

@@ -6,7 +6,7 @@ use Prim.Native.Nat.{ℕ, _+_, _-_, _≤_}
 use lib.ListN.{length, drop, drop-of-length-le}
 use lib.Seq.{sets}
 use Rattle.policy.specs.Fields.{fields}
-use Rattle.records.proofs.Steps.{value-put}
+use Rattle.lists.proofs.Lists.{sets-next}
 use Rattle.records.proofs.put_values.Statement.{statement}
 use Rattle.records.proofs.put_values.Tie as tie
 
@@ -48,7 +48,7 @@ loop-again : tie.Need-loop-again Inv-loop μ-loop
 loop-again c =
     let h = c .before .loop in
     let a = c .before .before .args in
-    (search needs, search needs, search needs, value-put (h .numbers) (a .t3) (a .at) (h .k) _ (omega arith) (h .inv .3))
+    (search needs, search needs, search needs, subst (λ (n : ℕ). sets _ n _ ≡ _) (omega arith) (sets-next (h .numbers) (a .at + h .k) (a .t3) (h .k) _ 0 _ (omega arith) refl (h .inv .3)))
 
 same-length : tie.Need-same-length Inv-loop μ-loop
 same-length c = search needs

@@ -1,6 +1,7 @@
 -- `print_loaded` is safe and ends. Assumes nothing.
 use borrow.Author.Needs.{needs}
 use mathlib.Core.Path.{sym, _∙_}
+use borrow.Author.Tests.{not-false}
 use Rattle.report.proofs.print_loaded.Statement.{statement}
 use Rattle.report.proofs.print_loaded.Tie as tie
 
@@ -9,6 +10,12 @@ add-places c = search needs
 
 are-readings-requires : tie.Need-are-readings-requires
 are-readings-requires c κs = search needs
+
+print-refusal-requires : tie.Need-print-refusal-requires
+print-refusal-requires c κs = search needs
+
+returns : tie.Need-returns
+returns c = search needs
 
 slice-aggregate-put-table : tie.Need-slice-aggregate-put-table
 slice-aggregate-put-table c = search needs
@@ -31,14 +38,14 @@ print-unread-requires c κs = search needs
 enum-known-f : tie.Need-enum-known-f
 enum-known-f c = search needs
 
-print-refusal-requires : tie.Need-print-refusal-requires
-print-refusal-requires c κs = search needs
+print-refusal-requires-2 : tie.Need-print-refusal-requires-2
+print-refusal-requires-2 c κs = search needs
 
 enum-told-2 : tie.Need-enum-told-2
 enum-told-2 c = search needs
 
-print-refusal-requires-2 : tie.Need-print-refusal-requires-2
-print-refusal-requires-2 c κs = search needs
+print-refusal-requires-3 : tie.Need-print-refusal-requires-3
+print-refusal-requires-3 c κs = search needs
 
 enum-known-t : tie.Need-enum-known-t
 enum-known-t c = search needs
@@ -47,34 +54,30 @@ print-load-requires : tie.Need-print-load-requires
 print-load-requires c κs = search needs
 
 print-hits-requires : tie.Need-print-hits-requires
-print-hits-requires c κs = (c .before .before .before .before .before .before .before .before .before .before .before .before .before .before .before .before .before .before .before .pre .laid .totalLimit, sym (c .before .before .before .before .before .before .before .before .before .before .before .before .before .are-readings .ensures) ∙ c .before .before .before .before .before .before .before .before .before .before .before .before .if1 .taken)
-
-print-refusal-requires-3 : tie.Need-print-refusal-requires-3
-print-refusal-requires-3 c κs = search needs
+print-hits-requires c κs =
+    let k = c .before .before .before .before .before .before .before .before .before .before .before .before .before .are-readings in
+    (c .before .before .before .before .before .before .before .before .before .before .before .before .before .before .before .before .before .before .before .pre .laid .totalLimit, sym (k .ensures) ∙ not-false (k .result) (c .before .before .before .before .before .before .before .before .before .before .before .before .if1 .left))
 
 same-length : tie.Need-same-length
 same-length c = search needs
 
-returns : tie.Need-returns
-returns c = search needs
+returns-2 : tie.Need-returns-2
+returns-2 c = search needs
 
 same-length-2 : tie.Need-same-length-2
 same-length-2 c = search needs
 
-returns-2 : tie.Need-returns-2
-returns-2 c = search needs
+returns-3 : tie.Need-returns-3
+returns-3 c = search needs
 
 same-length-3 : tie.Need-same-length-3
 same-length-3 c = search needs
 
-returns-3 : tie.Need-returns-3
-returns-3 c = search needs
+returns-4 : tie.Need-returns-4
+returns-4 c = search needs
 
 same-length-4 : tie.Need-same-length-4
 same-length-4 c = search needs
-
-returns-4 : tie.Need-returns-4
-returns-4 c = search needs
 
 returns-5 : tie.Need-returns-5
 returns-5 c = search needs
@@ -85,6 +88,8 @@ print-loaded-spec =
     (tie.spec
     add-places
     are-readings-requires
+    print-refusal-requires
+    returns
     slice-aggregate-put-table
     put-table-requires
     slice-aggregate-add-all
@@ -92,19 +97,17 @@ print-loaded-spec =
     enum-told
     print-unread-requires
     enum-known-f
-    print-refusal-requires
-    enum-told-2
     print-refusal-requires-2
+    enum-told-2
+    print-refusal-requires-3
     enum-known-t
     print-load-requires
     print-hits-requires
-    print-refusal-requires-3
     same-length
-    returns
-    same-length-2
     returns-2
-    same-length-3
+    same-length-2
     returns-3
-    same-length-4
+    same-length-3
     returns-4
+    same-length-4
     returns-5)

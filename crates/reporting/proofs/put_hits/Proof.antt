@@ -6,9 +6,10 @@ use mathlib.Core.List.{List}
 use Prim.Native.Nat.{ℕ, _-_, _≤_}
 use lib.ListN.{length, drop, drop-of-length-le}
 use lib.Seq.{sets}
+use Rattle.lists.proofs.Lists.{sets-next}
 use Rattle.load.specs.Packets.{hitsIn}
 use Rattle.reporting.specs.Report.{hitsSize}
-use Rattle.reporting.proofs.Hits.{hits-length, padded, padded-at, padded-length, padded-filled, number-put}
+use Rattle.reporting.proofs.Hits.{hits-length, padded, padded-at, padded-length, padded-filled}
 use Rattle.reporting.proofs.put_hits.Statement.{statement}
 use Rattle.reporting.proofs.put_hits.Tie as tie
 
@@ -53,7 +54,7 @@ loop-again : tie.Need-loop-again Inv-loop μ-loop
 loop-again c =
     let h = c .before .before .loop in
     let a = c .before .before .before .before .before .before in
-    (search needs, search needs, number-put (h .hits) _ (h .place) _ _ (omega (arith, all a, c .before .loop-test .taken)) (c .hits-at .ensures ∙ padded-at hitsSize _ _) (h .inv .2))
+    (search needs, search needs, sets-next (h .hits) (h .place) _ (h .place) _ 0 _ (omega (arith, all a, c .before .loop-test .taken)) (c .hits-at .ensures ∙ padded-at hitsSize _ _) (h .inv .2))
 
 same-length : tie.Need-same-length Inv-loop μ-loop
 same-length c = search needs

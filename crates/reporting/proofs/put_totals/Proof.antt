@@ -3,7 +3,7 @@ use borrow.Author.Needs.{needs}
 use native.Mathlib.Omega.{arith}
 use mathlib.Core.Path.{refl}
 use lib.ListN.{length-set}
-use Rattle.reporting.specs.Steps.{totalsOfLoad}
+use Rattle.reporting.specs.Report.{totalsOf}
 use Rattle.reporting.proofs.put_totals.Statement.{statement}
 use Rattle.reporting.proofs.put_totals.Tie as tie
 
@@ -32,7 +32,7 @@ same-length : tie.Need-same-length
 same-length c = search needs
 
 returns : tie.Need-returns
-unfolding totalsOfLoad
+unfolding totalsOf
 returns c = rw (← c .gain .ensures) refl
 
 pub put-totals-spec : {M : Type 1} → statement M

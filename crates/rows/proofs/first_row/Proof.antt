@@ -11,7 +11,8 @@ use Rattle.policy.specs.Rules.{Proper}
 use Rattle.policy.specs.Steps.{boxNumber}
 use Rattle.policy.specs.Values.{packetOf}
 use Rattle.rows.specs.Steps.{rowSize, rowIn, rowsIn}
-use Rattle.rows.proofs.Turns.{items-turn, each-turn, turn-has, turn-misses, items-none}
+use Rattle.wire.proofs.Items.{items-turn, each-turn, items-none}
+use Rattle.rows.proofs.Turns.{turn-has, turn-misses}
 use Rattle.rows.proofs.first_row.Statement.{statement}
 use Rattle.rows.proofs.first_row.Tie as tie
 

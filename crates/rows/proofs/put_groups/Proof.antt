@@ -18,8 +18,6 @@ use Rattle.rows.specs.Steps.{rowSize, rowsNumbers}
 use Rattle.rows.proofs.Turns.{each-group, group-turn, groups-none}
 use Rattle.rows.proofs.put_groups.Statement.{statement}
 use Rattle.rows.proofs.put_groups.Tie as tie
-use Rattle.rows.proofs.put_rows.Reads as put-rows-reads
-use Rattle.wire.proofs.count_at.Reads as count-at-reads
 
 abbrev Inv-loop : tie.InvT-loop
 Inv-loop table₀ at sheet from n p₀ start₀ left₀ table p start left =

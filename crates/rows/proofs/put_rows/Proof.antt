@@ -12,11 +12,10 @@ use Rattle.policy.specs.Ranges.{Region}
 use Rattle.policy.specs.Rules.{Proper}
 use Rattle.wire.specs.Records.{boxIn, eachIn, eachBytes}
 use Rattle.rows.specs.Steps.{rowSize, rowNumbers, rowsNumbers}
-use Rattle.rows.proofs.Turns.{each-turn, size-turn, row-turn, items-none}
+use Rattle.wire.proofs.Items.{each-turn, size-turn, items-none}
+use Rattle.rows.proofs.Turns.{row-turn}
 use Rattle.rows.proofs.put_rows.Statement.{statement}
 use Rattle.rows.proofs.put_rows.Tie as tie
-use Rattle.rows.proofs.put_row.Reads as put-row-reads
-use Rattle.wire.proofs.box_at.Reads as box-at-reads
 
 abbrev Inv-loop : tie.InvT-loop
 Inv-loop table₀ at sheet from size n p₀ start₀ left₀ table p start left =
