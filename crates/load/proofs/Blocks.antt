@@ -18,7 +18,7 @@ use Rattle.load.specs.Steps.{Bounded}
 use Rattle.load.proofs.Sums.{plus-none, plus-assoc, loads-append, load-first}
 use Rattle.load.proofs.Packets.{whole-both, rest-both, packets-append}
 
-pub bounded-plus : (t u : Load) → Bounded t → Bounded u → t .packets + u .packets ≤ packetsMost → Bounded (plus t u)
+bounded-plus : (t u : Load) → Bounded t → Bounded u → t .packets + u .packets ≤ packetsMost → Bounded (plus t u)
 unfolding plus
 bounded-plus t u x y h = record {
   packets = h;

@@ -44,7 +44,7 @@ module _ (s : List ℕ) (q : Pair) (checks : checkOf limits s ≡ accepted q) (p
   unfolding firstFrom
   gate-misses h = rw h refl
 
-  pub tries-after : (n a : ℕ) → inLimits p ≡ true → first p (cellList q) ≡ found n a → triesAfter q p ≡ 1 + (n + 1)
+  tries-after : (n a : ℕ) → inLimits p ≡ true → first p (cellList q) ≡ found n a → triesAfter q p ≡ 1 + (n + 1)
   unfolding triesOf
   tries-after n a h e = rw (gate-passes h, e) (omega arith)
 

@@ -27,7 +27,7 @@ unfoldable pub rowNumbers : Region → List ℕ
 rowNumbers [] = []
 rowNumbers (r ∷ b) = r .low ∷ (r .high - r .low) ∷ rowNumbers b
 
--- A row read: a range for each of so many fields.
+-- A row read: a range for each field, of which there are as many as numbers in the first list.
 unfoldable pub spansIn : List ℕ → List ℕ → Region
 spansIn [] t = []
 spansIn (h ∷ hs) [] = []

@@ -28,7 +28,7 @@ ghost use Rattle.origins.specs.Steps.{Checked, Traced};
 ghost use Rattle.rows.specs.Steps.{rowSize, tableSize, rowNumbers, rowsNumbers, rowIn, rowsIn, frontsAt, Fronts, Tabled};
 
 // The numbers of a row: for each field its low, and how far its high lies above it.
-pub const ROW_NUMBERS: usize = 2 * FIELDS;
+const ROW_NUMBERS: usize = 2 * FIELDS;
 
 // Behind the room for the rows of A and of the cell list stand the fronts: for each rule of A how many boxes stand before its group, and
 // at A's end how many there are.

@@ -1,7 +1,7 @@
 -- `put_values` meets its contract: the loop's invariant says what is left to store. Assumes nothing.
 use borrow.Author.Needs.{needs}
 use native.Mathlib.Omega.{arith}
-use mathlib.Core.Path.{_≡_, ap}
+use mathlib.Core.Path.{_≡_, refl, ap}
 use Prim.Native.Nat.{ℕ, _+_, _-_, _≤_}
 use lib.ListN.{length, drop, drop-of-length-le}
 use lib.Seq.{sets}
@@ -48,7 +48,8 @@ loop-again : tie.Need-loop-again Inv-loop μ-loop
 loop-again c =
     let h = c .before .loop in
     let a = c .before .before .args in
-    (search needs, search needs, search needs, subst (λ (n : ℕ). sets _ n _ ≡ _) (omega arith) (sets-next (h .numbers) (a .at + h .k) (a .t3) (h .k) _ 0 _ (omega arith) refl (h .inv .3)))
+    let e : a .at + (h .k + 1) ≡ a .at + h .k + 1 = omega arith in
+    (search needs, search needs, search needs, rw e (sets-next (h .numbers) (a .at + h .k) (a .t3) (h .k) _ 0 _ (omega arith) refl (h .inv .3)))
 
 same-length : tie.Need-same-length Inv-loop μ-loop
 same-length c = search needs
