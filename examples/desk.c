@@ -1,5 +1,6 @@
-/* From an order sheet in a file to the two lists to load, each in a file: desk ORDER GATE CELL
- * Load CELL first, then GATE: in between the two filters forward what they forwarded before. */
+/* From an order sheet in a file to the two lists to load, each in a file: desk ORDER GATE CELL [PAIR]
+ * Load CELL first, then GATE: in between the two filters forward what they forwarded before. PAIR gets
+ * the pair sheet, which edits, origin and report take. */
 #include <stdio.h>
 
 #include "foldplover.h"
@@ -18,7 +19,7 @@ static int save(const char *name, const uint8_t *bytes, uint32_t length) {
 }
 
 int main(int count, char **names) {
-    if (count != 4) return fprintf(stderr, "usage: desk ORDER GATE CELL\n"), 2;
+    if (count != 4 && count != 5) return fprintf(stderr, "usage: desk ORDER GATE CELL [PAIR]\n"), 2;
     FILE *file = fopen(names[1], "rb");
     if (file == NULL) return perror(names[1]), 2;
     size_t length = fread(order, 1, sizeof order, file);
@@ -31,6 +32,7 @@ int main(int count, char **names) {
     uint32_t down = foldplover_cell_list(sheet, used, cell, sizeof cell, work, sizeof work);
     if (up >= FOLDPLOVER_REFUSED || down >= FOLDPLOVER_REFUSED) return printf("not a sheet of a move\n"), 1;
     if (!save(names[2], gate, up) || !save(names[3], cell, down)) return perror("desk"), 2;
+    if (count == 5 && !save(names[4], sheet, used)) return perror("desk"), 2;
     printf("gate %u bytes, cell %u bytes\n", (unsigned)up, (unsigned)down);
     return 0;
 }

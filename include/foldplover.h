@@ -87,7 +87,8 @@ extern "C" {
 enum foldplover_refusal {
     FOLDPLOVER_BUFFER_SHORT = 1,    /* a buffer below its least length, or used beyond its buffer */
     FOLDPLOVER_COUNT_OUTSIDE = 2,   /* a list without a rule or with too many; too many packets */
-    FOLDPLOVER_LENGTH_WRONG = 3,    /* input too short or too long; a record not of 27 bytes */
+    FOLDPLOVER_LENGTH_WRONG = 3,    /* input too short or too long; a record not of 27 bytes; readings
+                                       not of 4 bytes a place, or the last packet not whole */
     FOLDPLOVER_RULE_BAD = 4,        /* a range or an action that cannot be */
     FOLDPLOVER_NOT_COMPLETE = 5,    /* no full rule at the end; no rule has the packet */
     FOLDPLOVER_TOO_MANY_PIECES = 6, /* over 1,024 pieces of one deny rule after some allow */

@@ -17,12 +17,13 @@ tests/x86 run target/surface++
 tests/x86 run target/before tests/second/data/before_w2.pair
 tests/x86 run target/before++ tests/second/data/before_w2.pair
 
-# The desk example: what it prints, its status, the lengths of both lists, and the gate list's bytes; a refused sheet writes none.
+# The desk example: what it prints, its status, the lengths of both lists, the gate list's bytes and the plant's pair sheet; a refused
+# sheet writes none.
 tests/x86 gcc -std=c11 $flags -o target/desk examples/desk.c $library
-rm -f target/*.gate target/*.cell
+rm -f target/*.gate target/*.cell target/*.pair
 desk() {
     status=0
-    tests/x86 run target/desk "examples/$1.order" "target/$1.gate" "target/$1.cell" >target/desk.txt || status=$?
+    tests/x86 run target/desk "examples/$1.order" "target/$1.gate" "target/$1.cell" "target/$1.pair" >target/desk.txt || status=$?
     echo "$2" | cmp - target/desk.txt
     [ "$status" = "$3" ]
 }
@@ -33,8 +34,8 @@ for name in dairy:137 plant:5105; do
     printf '\0\1\0\0\0\0\377\377\377\377\0\0\0\0\377\377\377\377\0\0\377\377\0\0\377\377\0\377\1' | cmp - "target/${name%:*}.gate"
     [ "$(wc -c <"target/${name%:*}.cell")" = "${name#*:}" ]
 done
-[ ! -e target/refused.gate ]
-[ ! -e target/refused.cell ]
+cmp target/plant.pair examples/plant.pair
+for list in gate cell pair; do [ ! -e target/refused.$list ]; done
 
 # The origin example: the packet that README tells of, one that an own rule forwards, one that no rule has, a refused sheet, and
 # words that are no packet or no file.

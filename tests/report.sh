@@ -8,13 +8,14 @@ made=target/report_cases
 rm -rf "$made"
 mkdir -p "$made/folder"
 
-# prints CASE FILE WORD..: for these words the program prints what the file has, and nothing on standard error.
+# prints CASE FILE WORD..: for these words the program prints what the file has, and nothing on standard error; its status is 0.
 prints() {
     name=$1 expected=$2
     shift 2
-    tests/x86 run target/bin/report "$@" >"$made/printed" 2>&1 || :
-    cmp "$made/printed" "$expected" && return
-    echo "report: $name. It printed:"
+    status=0
+    tests/x86 run target/bin/report "$@" >"$made/printed" 2>&1 || status=$?
+    [ $status = 0 ] && cmp "$made/printed" "$expected" && return
+    echo "report: $name. Status $status. It printed:"
     head -n 7 "$made/printed"
     exit 1
 }
@@ -115,6 +116,9 @@ refused '1,000,000 packets and a broken one' 3 $sheet "$made/million" $earlier $
 printf x >>"$made/above"
 refused '1,000,001 packets and a broken one' 2 $sheet "$made/above" $earlier $later
 
+# Packets without end are too many once 1,000,001 of them have come.
+refused 'packets without end' 2 $sheet /dev/zero $earlier $later
+
 # What comes through a pipe, a piece at a time.
 in_pieces examples/plant.packets | plant 'packets in pieces' examples/plant.report /dev/stdin
 in_pieces $sheet | prints 'a sheet in pieces' "$made/ten" /dev/stdin $ten $earlier $later
@@ -130,6 +134,32 @@ for wrong in empty short place_short long place_long million; do
     refused "earlier readings $wrong" 3 $sheet $ten "$made/$wrong" $later
     refused "later readings $wrong" 3 $sheet $ten $earlier "$made/$wrong"
 done
+
+# The longest list, 1,024 places: 31 single sources allowed, 24 denies of 32 boxes each, 256 own rules.
+head -c 4096 /dev/zero >"$made/zeros"
+{
+    printf 'packets 0\nbefore 0\nafter 0\nforwarded 0\ngain none\n'
+    seq 0 1023 | sed 's/$/ 0/'
+} >"$made/longest"
+prints 'readings of 1,024 places' "$made/longest" tests/report/longest.pair "$made/empty" "$made/zeros" "$made/zeros"
+for length in 4092 4095 4097 4100; do
+    head -c $length /dev/zero >"$made/other"
+    refused "earlier readings of $length bytes" 3 tests/report/longest.pair "$made/empty" "$made/other" "$made/zeros"
+    refused "later readings of $length bytes" 3 tests/report/longest.pair "$made/empty" "$made/zeros" "$made/other"
+done
+
+# The longest sheet, 28,742 bytes: 64 full denies with 12 boxes each where they give one, 256 own rules; and a byte more.
+full='\0\0\0\0\377\377\377\377\0\0\0\0\377\377\377\377\0\0\377\377\0\0\377\377\0\377'
+three=$full$full$full
+{
+    printf '\0\100' && printf "$full\0%.0s" $(seq 64)
+    printf '\1\0' && printf "$full\1%.0s" $(seq 256)
+    printf '\0\100' && printf "\0\014$three$three$three$three%.0s" $(seq 64)
+} >"$made/largest"
+[ "$(wc -c <"$made/largest")" = 28742 ]
+refused 'the longest sheet' 8 "$made/largest" $ten $earlier $later
+printf x >>"$made/largest"
+refused 'a byte more than the longest sheet' 3 "$made/largest" $ten $earlier $later
 
 # The check's refusals: the sheet's bytes are in docs/FORMATS.md, section 2.
 changed $sheet 1 0 >"$made/no_rule"

@@ -23,6 +23,16 @@ for order in examples/*.order; do
     $out/second plan <"$order" >$out/plan.out
     cmp $out/plan.out "${order%.order}.out"
 done
+$out/second move <examples/plant.order >$out/made.pair
+cmp $out/made.pair examples/plant.pair
+$out/second move <examples/dairy.order >$out/made.pair
+cmp $out/made.pair tests/report/dairy.pair
+head -c 8401 tests/report/longest.pair >$out/longest.order
+$out/second move <$out/longest.order >$out/made.pair
+cmp $out/made.pair tests/report/longest.pair
+$out/second report examples/plant.pair examples/plant.packets examples/plant.earlier examples/plant.later >$out/made.report
+for stored in examples/plant.report crates/report/stdout; do cmp $out/made.report $stored; done
+for kind in pair packets earlier later; do cmp examples/plant.$kind crates/report/data/plant.$kind; done
 
 # What report prints for files in $out/load: a packet that the example's second box drops; readings
 # that are met before the packets, a sheet before the readings; names and words that are not there.
