@@ -412,6 +412,14 @@ static void test_origin(void)
     expect_dairy("sheet after origins");
 }
 
+static void put_deny_of_30(uint8_t *record)
+{
+    memcpy(record, full_allow, RECORD);
+    memset(record + 8, 0, 8);
+    record[11] = record[15] = 30;
+    record[26] = 0;
+}
+
 /* A deny of destination 30 put in front of the gate's deny, and one of 31 in front of the cell's
  * own rule: each moves what stands behind it. */
 static void test_origin_after_edits(void)
@@ -419,10 +427,7 @@ static void test_origin_after_edits(void)
     const size_t edited = PAIR_LENGTH + 27 + 2 + 26;
     uint8_t record[RECORD];
     move_dairy();
-    memcpy(record, full_allow, RECORD);
-    memset(record + 8, 0, 8);
-    record[11] = record[15] = 30;
-    record[26] = 0;
+    put_deny_of_30(record);
     expect("insert a deny of 30", insert(FOLDPLOVER_A, 1, record, RECORD), (uint32_t)edited);
     record[11] = record[15] = 31;
     expect("insert a deny of 31",
@@ -573,10 +578,7 @@ static void test_report_after_edit(void)
     static const uint64_t edited[FOLDPLOVER_TOTALS] = {5, 13, 23, 1, 13, 23};
     uint8_t record[RECORD];
     move_dairy();
-    memcpy(record, full_allow, RECORD);
-    memset(record + 8, 0, 8);
-    record[11] = record[15] = 30;
-    record[26] = 0;
+    put_deny_of_30(record);
     expect("insert an own deny", insert(FOLDPLOVER_B, 0, record, RECORD), PAIR_LENGTH + RECORD);
     expect("report: an own deny",
            report_over(PAIR_LENGTH + RECORD, packets, sizeof packets, PLACES + 1), PLACES + 1);
