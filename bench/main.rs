@@ -24,10 +24,13 @@ fn main() {
     match word(0) {
         Some("evaluation") => return evaluation::run(word(1) != Some("untimed")),
         Some("agree") => {
+            lookup::agree();
             report::agree();
             return agreeing::run();
         }
+        Some("names") if word(1) == Some("lookups") => return lookup::names(),
         Some("names") => return moving::names(),
+        Some("lookups") => return lookup::count(number(1), number(2), number(3)),
         Some("moves") => return moving::repeat(number(1), number(2), number(3)),
         Some("reports") => return report::count(number(1), number(2), number(3)),
         _ => {}

@@ -1,7 +1,7 @@
 // Lookup in tables of 1,024 rules in memory, the rules that bench/lookup.rs has as bytes: the library beside two C versions over the
 // same structs, then beside safe Rust over them and its own lookup over the bytes.
-use crate::lookup::{decode, kinds, list, Packet, Rule, CALLS, PACKET};
-use crate::measure::{head, medians, row, timed, Random, Version};
+use crate::lookup::{decode, kinds, Packet, Rule, CALLS, PACKET};
+use crate::measure::{head, medians, row, timed, Version};
 use crate::sheets::{FIELDS, HIGHEST, MOST as RULES, RECORD};
 use std::hint::black_box;
 use std::mem::size_of;
@@ -67,9 +67,8 @@ pub fn run() {
     let versions: [Version<fn(&Packet, &Both) -> u32>; 5] =
         [("library", library), ("C loops", c_loops), ("C straight", c_straight), ("safe Rust", rust), ("its bytes", bytes)];
     head("lookup in a table, the last rule fits", &["rules", "bytes"], &versions);
-    let mut random = Random(0x9E37_79B9_7F4A_7C15);
-    for (what, miss, how_many) in kinds() {
-        let tables: Vec<Both> = (0..how_many).map(|_| both(list(&mut random, &PACKET, miss))).collect();
+    for (name, lists) in kinds() {
+        let tables: Vec<Both> = lists.into_iter().map(both).collect();
         for t in &tables {
             let answers: Vec<u32> = versions.iter().map(|(_, f)| f(&PACKET, t)).collect();
             assert!(answers.iter().all(|a| *a == answers[0]) && answers[0] / 2 == RULES as u32 - 1, "{answers:?}");
@@ -81,6 +80,6 @@ pub fn run() {
                 }
             })
         });
-        row(what, &[RULES, RULES * size_of::<Rule>()], &times);
+        row(name, &[RULES, RULES * size_of::<Rule>()], &times);
     }
 }

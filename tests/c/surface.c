@@ -257,6 +257,57 @@ static void test_lookup(void)
     expect("no rule", lookup(9, 80, 6), REFUSAL(FOLDPLOVER_COUNT_OUTSIDE));
 }
 
+/* The fields' first bytes in a record, and the bytes of a number there. */
+static const size_t field_begins[5] = {0, 8, 16, 20, 24};
+static const size_t field_widths[5] = {4, 4, 2, 2, 1};
+
+static void put_range(uint8_t *record, size_t field, uint8_t low, uint8_t high)
+{
+    size_t width = field_widths[field];
+    uint8_t *range = record + field_begins[field];
+    memset(range, 0, 2 * width);
+    range[width - 1] = low;
+    range[2 * width - 1] = high;
+}
+
+/* Packet 9, 9, 9, 9, 9 in a list of two records. */
+static uint32_t lookup_nines(const uint8_t *first, const uint8_t *second)
+{
+    uint8_t two[2 + 2 * RECORD] = {0, 2};
+    memcpy(two + 2, first, RECORD);
+    memcpy(two + 2 + RECORD, second, RECORD);
+    return foldplover_lookup(9, 9, 9, 9, 9, two, sizeof two);
+}
+
+/* Each field by itself has a packet, or misses it at either end; and whichever field the packet
+ * misses, a record that is bad in any one is refused, unless it stands behind the rule that
+ * decides. */
+static void test_lookup_fields(void)
+{
+    uint8_t record[RECORD];
+    size_t missed, bad;
+    for (missed = 0; missed < 5; missed++) {
+        memcpy(record, full_allow, RECORD);
+        put_range(record, missed, 9, 9);
+        expect("the field has it alone", lookup_nines(record, full_allow), 1);
+        put_range(record, missed, 0, 8);
+        expect("above the field", lookup_nines(record, full_allow), 3);
+        put_range(record, missed, 10, 10);
+        expect("below the field", lookup_nines(record, full_allow), 3);
+        record[RECORD - 1] = 2;
+        expect("missed, and action 2", lookup_nines(record, full_allow),
+               REFUSAL(FOLDPLOVER_RULE_BAD));
+        for (bad = 0; bad < 5; bad++) {
+            memcpy(record, full_allow, RECORD);
+            put_range(record, missed, 10, 10);
+            put_range(record, bad, 10, 9);
+            expect("missed, and a low above its high", lookup_nines(record, full_allow),
+                   REFUSAL(FOLDPLOVER_RULE_BAD));
+            expect("bad behind the one that decides", lookup_nines(full_allow, record), 1);
+        }
+    }
+}
+
 static uint32_t lookup_table(uint32_t dst, uint32_t dport, uint32_t proto,
                              const struct foldplover_rule *rules, size_t count)
 {
@@ -768,6 +819,7 @@ int main(void)
     test_cell_list();
     test_lookup_table();
     test_lookup();
+    test_lookup_fields();
     test_edits();
     test_origin();
     test_origin_after_edits();

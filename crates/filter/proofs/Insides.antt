@@ -1,14 +1,16 @@
 -- Whether a packet is in a box, told field by field and in any order. Assumes nothing.
-use mathlib.Core.Path.{_≡_, refl}
+use mathlib.Core.Path.{_≡_, refl, ap, _∙_}
 use mathlib.Core.List.{[], _∷_}
-use mathlib.Core.Bool.{true, false}
-use Prim.Native.Nat.{_%_, _^_, _+_, _-_, ℕ, zero, suc, _<_, _≤_, zero-le, suc-le-suc}
+use mathlib.Core.Bool.{Bool, true, false, _&&_}
+use Prim.Native.Nat.{_%_, _^_, _+_, _-_, ℕ, zero, suc, _<_, _≤_}
 use native.Mathlib.Omega.{arith}
 use lib.Dec.{leb}
 use lib.ListN.{length, getD}
 use borrow.Author.Tests.{le-leb, leb-true}
-use Rattle.lists.proofs.Tests.{and-true, and-both, and-false, bool-eq}
-use Rattle.policy.specs.Ranges.{Range, Region, Packet, within, inside, Whole}
+use Rattle.lists.specs.Lists.{everyBoth}
+use Rattle.lists.proofs.Tests.{and-true, and-both, bool-eq}
+use Rattle.lists.proofs.Both.{fails-at, holds-of-each}
+use Rattle.policy.specs.Ranges.{Range, range, Region, Packet, within, inside, Whole}
 use Rattle.policy.specs.Steps.{rangeAt}
 
 -- One compare for both ends of a range: w is x less the low, wrapped round below 0.
@@ -31,22 +33,20 @@ range-whole [] k h g = absurd (omega arith)
 range-whole (r ∷ b) zero h g = h .0
 range-whole (r ∷ b) (suc k) h g = range-whole b k (h .1) (omega arith)
 
+inside-both : (p : Packet) (b : Region) → inside p b ≡ everyBoth within p b
+unfolding inside everyBoth
+inside-both [] [] = refl
+inside-both [] (r ∷ b) = refl
+inside-both (x ∷ p) [] = refl
+inside-both (x ∷ p) (r ∷ b) = ap (λ (t : Bool). within x r && t) (inside-both p b)
+
 -- A packet with one value outside its range is not in the box.
 pub outside-at : (p : Packet) (b : Region) (k : ℕ) → k < length p → k < length b → within (getD p k 0) (rangeAt b k) ≡ false → inside p b ≡ false
-unfolding inside
-outside-at [] b k u v h = absurd (omega arith)
-outside-at (x ∷ p) [] k u v h = absurd (omega arith)
-outside-at (x ∷ p) (r ∷ b) zero u v h = rw h
-outside-at (x ∷ p) (r ∷ b) (suc k) u v h = rw (outside-at p b k (omega arith) (omega arith) h) (and-false (within x r))
+outside-at p b k u v h = inside-both p b ∙ fails-at within 0 (range 0 0) p b k u v h
 
 -- A packet with every value in its range is in the box.
 abbrev pub InRange : Packet → Region → ℕ → Type 0
 InRange p b k = within (getD p k 0) (rangeAt b k) ≡ true
 
 pub all-inside : (p : Packet) (b : Region) → length p ≡ length b → ((k : ℕ) → k < length p → InRange p b k) → inside p b ≡ true
-unfolding inside
-all-inside [] [] e f = refl
-all-inside [] (r ∷ b) e f = absurd (omega arith)
-all-inside (x ∷ p) [] e f = absurd (omega arith)
-all-inside (x ∷ p) (r ∷ b) e f =
-    and-both (within x r) (inside p b) (f 0 (suc-le-suc zero-le)) (all-inside p b (omega arith) (λ k h. f (suc k) (suc-le-suc h)))
+all-inside p b e f = inside-both p b ∙ holds-of-each within 0 (range 0 0) p b e f

@@ -59,7 +59,8 @@ pub fn is_inside(p: Packet, bounds: Box) -> bool
     missed == 0
 }
 
-// The rules of a list of so many, one after another: a field outside its range ends a rule.
+// The rules of a list of so many, one after another. A record is tested first; then its fields are tried from the protocol up to the
+// source address, and one outside its range ends the rule.
 fn scan(p: Packet, list: &[u8], count: usize) -> Verdict
     requires { ⌜ length (now list) ≡ listSize count ⌝ }
     ensures { λ r. ⌜ verdict r ≡ lookFrom 0 (packetOf p) (rulesIn count (drop countSize (now (list .entry)))) ⌝ }
@@ -71,7 +72,9 @@ fn scan(p: Packet, list: &[u8], count: usize) -> Verdict
             return Verdict::Refused(Refusal::RuleBad);
         }
         let bounds = r.bounds;
-        for k in 0..FIELDS {
+        let mut k: usize = FIELDS;
+        'fields: while k > 0 {
+            k -= 1;
             if !is_within(values[k], bounds.low_at(k), bounds.high_at(k)) {
                 continue 'rules;
             }

@@ -1,13 +1,17 @@
--- A loop over two lists side by side: what it knows at turn k of a test of both. Assumes nothing.
-use mathlib.Core.Path.{_≡_, ap, sym, _∙_}
-use mathlib.Core.List.{List}
+-- A loop over two lists side by side: what it knows of a test of both, at turn k or, in any order, at single places. Assumes nothing.
+use mathlib.Core.Path.{_≡_, refl, ap, sym, subst, _∙_}
+use mathlib.Core.List.{List, [], _∷_}
 use mathlib.Core.Bool.{Bool, true, false, not, _&&_}
-use Prim.Native.Nat.{ℕ, suc, _+_, _<_, _≤_}
+use mathlib.Core.Logic.{⊎-elim}
+use Prim.Native.Nat.{ℕ, zero, suc, _+_, _-_, _<_, _≤_, zero-le, suc-le-suc}
+use native.Mathlib.Omega.{arith}
+use native.Mathlib.Nat.{eq-or-lt-of-le}
 use native.Mathlib.Numerals.{add-one}
 use lib.ListN.{length, getD, drop, drop-of-length-le}
 use lib.Seq.{drop-cons}
 use borrow.Author.Tests.{not-true, not-false}
 use Rattle.lists.specs.Lists.{everyBoth}
+use Rattle.lists.proofs.Tests.{and-both, and-false}
 
 module _ {A B : Type 0} (f : A → B → Bool) (l : List A) (m : List B) (k : ℕ) (same : everyBoth f l m ≡ everyBoth f (drop k l) (drop k m)) where
   module _ (x : A) (y : B) (u : k < length l) (v : k < length m) {t : Bool} (test : t ≡ f (getD l k x) (getD m k y)) where
@@ -24,3 +28,24 @@ module _ {A B : Type 0} (f : A → B → Bool) (l : List A) (m : List B) (k : �
   pub both-done : length l ≤ k → length m ≤ k → true ≡ everyBoth f l m
   unfolding everyBoth
   both-done u v = sym (same ∙ rw (drop-of-length-le l u, drop-of-length-le m v))
+
+-- In any order: the test fails where it fails of one, and holds where it holds of each.
+module _ {A B : Type 0} (f : A → B → Bool) (x : A) (y : B) where
+  pub fails-at : (l : List A) (m : List B) (k : ℕ) → k < length l → k < length m → f (getD l k x) (getD m k y) ≡ false → everyBoth f l m ≡ false
+  unfolding everyBoth
+  fails-at [] m k u v h = absurd (omega arith)
+  fails-at (a ∷ l) [] k u v h = absurd (omega arith)
+  fails-at (a ∷ l) (b ∷ m) zero u v h = rw h
+  fails-at (a ∷ l) (b ∷ m) (suc k) u v h = rw (fails-at l m k (omega arith) (omega arith) h) (and-false (f a b))
+
+  pub holds-of-each : (l : List A) (m : List B) → length l ≡ length m → ((k : ℕ) → k < length l → f (getD l k x) (getD m k y) ≡ true) → everyBoth f l m ≡ true
+  unfolding everyBoth
+  holds-of-each [] [] e h = refl
+  holds-of-each [] (b ∷ m) e h = absurd (omega arith)
+  holds-of-each (a ∷ l) [] e h = absurd (omega arith)
+  holds-of-each (a ∷ l) (b ∷ m) e h =
+      and-both (f a b) (everyBoth f l m) (h 0 (suc-le-suc zero-le)) (holds-of-each l m (omega arith) (λ k g. h (suc k) (suc-le-suc g)))
+
+-- What a loop that counts i down from n has shown of every index that it has passed.
+pub above-more : (P : ℕ → Type 0) (n i : ℕ) → ((k : ℕ) → i ≤ k → k < n → P k) → P (i - 1) → (k : ℕ) → i - 1 ≤ k → k < n → P k
+above-more P n i all here k l h = ⊎-elim (λ e. subst P e here) (λ g. all k (omega arith) h) (eq-or-lt-of-le l)

@@ -206,16 +206,17 @@ impl Box {
         true
     }
 
-    // No low above its high, no value above its field's highest.
+    // No low above its high, no value above its field's highest. Tested from the last field on, since a lookup then tries that field
+    // first: with the other order the compiler takes one instruction more for it.
     pub fn is_proper(self) -> bool
         ensures { λ r. ⌜ r ≡ proper highest (regionOf self) ⌝ }
     {
-        let mut k: usize = 0;
-        while k < FIELDS {
+        let mut k: usize = FIELDS;
+        while k > 0 {
+            k -= 1;
             if !is_proper_range(self.low_at(k), self.high_at(k), HIGHEST[k]) {
                 return false;
             }
-            k += 1;
         }
         true
     }

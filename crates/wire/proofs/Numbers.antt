@@ -137,3 +137,18 @@ turned-four x =
     let e : a % 256 ≡ a = omega arith in
     low-first 3 ((a * 256 + b) * 256 + c) d (omega arith)
     ∙ ap (_∷_ d) (low-first 2 (a * 256 + b) c (omega arith) ∙ ap (_∷_ c) (low-first 1 a b (omega arith) ∙ rw e))
+
+-- A number that is another one turned, and that one's bytes: its upper and its lower half.
+pub turned-halves : (r a b c d : ℕ) → r < 2 ^ 32 → a < 256 → b < 256 → c < 256 → d < 256
+    → lowFirst 4 r ≡ numberBytes 4 (d * 16777216 + c * 65536 + b * 256 + a) → (r / 65536 ≡ a * 256 + b) × (r % 65536 ≡ c * 256 + d)
+unfolding lowFirst numberFrom Each
+turned-halves r a b c d small ha hb hc hd turned =
+    let s : List ℕ = d ∷ c ∷ b ∷ a ∷ [] in
+    let e : d * 16777216 + c * 65536 + b * 256 + a ≡ numberIn s = omega arith in
+    let f : lowFirst 4 r ≡ s = turned ∙ ap (numberBytes 4) e ∙ bytes-back 4 s refl (hd, (hc, (hb, (ha, tt)))) in
+    let byte : (i : ℕ) → getD (lowFirst 4 r) i 0 ≡ getD s i 0 = λ i. ap (λ (l : List ℕ). getD l i 0) f in
+    let e0 : r % 256 ≡ d = byte 0 in
+    let e1 : r / 256 % 256 ≡ c = byte 1 in
+    let e2 : r / 256 / 256 % 256 ≡ b = byte 2 in
+    let e3 : r / 256 / 256 / 256 % 256 ≡ a = byte 3 in
+    (omega arith, omega arith)

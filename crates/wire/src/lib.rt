@@ -7,7 +7,7 @@ use policy::Rule;
 use policy::WIDTH;
 ghost use mathlib.Core.Path.{_≡_};
 ghost use mathlib.Core.Bool.{true};
-ghost use Prim.Native.Nat.{_+_, _≤_, _<_};
+ghost use Prim.Native.Nat.{_+_, _/_, _%_, _≤_, _<_};
 ghost use lib.ListN.{length, take, drop};
 ghost use lib.Seq.{sets};
 ghost use Rattle.policy.specs.Fields.{widths, boxSize, recordSize, countSize};
@@ -16,6 +16,12 @@ ghost use Rattle.wire.specs.Numbers.{numberBytes, numberIn};
 ghost use Rattle.wire.specs.Steps.{lowFirst, isWidth, copiedDown, copiedUp};
 ghost use Rattle.wire.specs.Records.{rangesBytes, boxBytes, boxIn, recordBytes, ruleIn};
 ghost use Rattle.wire.specs.Buffers.{zeroed, filled};
+
+// A range as its bytes have it, which may be empty.
+struct Range {
+    low: u32,
+    high: u32,
+}
 
 fn wide(x: u8) -> u32
     ensures { λ r. ⌜ (r ≡ x) × (r < 256) ⌝ }
@@ -60,6 +66,17 @@ fn turned_two(x: u32) -> u32
     ensures { λ r. ⌜ lowFirst 2 r ≡ numberBytes 2 x ⌝ }
 {
     x % 256 * 256 + x / 256 % 256
+}
+
+// The numbers of the two bytes at `at` and of the two behind them, the first times 65536 and the second in one. The compiler loads
+// the four bytes at once, since they are taken the lowest first and turned; of four_at's sum it would make two loads for the two.
+fn both_at(s: &[u8], at: usize) -> u32
+    requires { ⌜ at + 4 ≤ length (now s) ⌝ }
+    ensures { λ r. ⌜ (r / 65536 ≡ numberIn (take 2 (drop at (now (s .entry))))) × (r % 65536 ≡ numberIn (take 2 (drop (at + 2) (now (s .entry))))) ⌝ }
+{
+    turned_four(
+        wide(s[at + 3]) * 16777216 + wide(s[at + 2]) * 65536 + wide(s[at + 1]) * 256 + wide(s[at]),
+    )
 }
 
 fn put_four(out: &mut [u8], at: usize, x: u32)
@@ -107,6 +124,26 @@ pub fn number_at(s: &[u8], at: usize, w: usize) -> u32
     one_at(s, at)
 }
 
+// The range whose two numbers of w bytes begin at `at`. A high is read before its low, and so the compiler also compares it first: one
+// compare less for a piece that lies below an allow, one more for a piece above it.
+fn range_at(s: &[u8], at: usize, w: usize) -> Range
+    requires { ⌜ (at + w + w ≤ length (now s)) × (isWidth w ≡ true) ⌝ }
+    ensures { λ r. ⌜ (r .low ≡ numberIn (take w (drop at (now (s .entry))))) × (r .high ≡ numberIn (take w (drop (at + w) (now (s .entry))))) ⌝ }
+{
+    if w == 2 {
+        let both = both_at(s, at);
+        return Range {
+            low: both / 65536,
+            high: both % 65536,
+        };
+    }
+    let high = number_at(s, at + w, w);
+    Range {
+        low: number_at(s, at, w),
+        high,
+    }
+}
+
 fn put_number(out: &mut [u8], at: usize, w: usize, x: u32)
     requires { ⌜ (at + w ≤ length (now out)) × (isWidth w ≡ true) ⌝ }
     ensures { λ r. ⌜ now (out .exit) ≡ sets (now (out .entry)) at (numberBytes w x) ⌝ }
@@ -137,8 +174,7 @@ pub fn put_count(out: &mut [u8], at: usize, n: usize)
     put_two(out, at, n as u32);
 }
 
-// The box whose bytes begin at `at`. A high is read before its low, and so the compiler also compares it first: one compare less for
-// a piece that lies below an allow, one more for a piece above it.
+// The box whose bytes begin at `at`.
 pub fn box_at(s: &[u8], at: usize) -> Box
     requires { ⌜ at + boxSize ≤ length (now s) ⌝ }
     ensures { λ r. ⌜ regionOf r ≡ boxIn (drop at (now (s .entry))) ⌝ }
@@ -149,8 +185,9 @@ pub fn box_at(s: &[u8], at: usize) -> Box
     let mut k: usize = 0;
     while k < FIELDS {
         let w = WIDTH[k];
-        high[k] = number_at(s, p + w, w);
-        low[k] = number_at(s, p, w);
+        let r = range_at(s, p, w);
+        low[k] = r.low;
+        high[k] = r.high;
         p = p + w + w;
         k += 1;
     }

@@ -369,6 +369,11 @@ pub fn lookup(mut packet: Packet, list: &[u8]) -> u32 {
         let end = 2 + RECORD_BYTES * usize::from(list[1]);
         return encode(calls::lookup(&packet, list.get(..end).unwrap_or(list)));
     }
+    if accepted(answer) || answer == refused(4) || answer == refused(5) {
+        if let Some(confused) = fields_confused(&packet, list) {
+            return confused;
+        }
+    }
     if !accepted(answer) {
         return answer;
     }
@@ -379,6 +384,34 @@ pub fn lookup(mut packet: Packet, list: &[u8]) -> u32 {
         _ if shows("lookup-place-off") => answer + 2,
         _ => answer,
     }
+}
+
+/// A lookup that leaves out a field at either end, or that tests a record only once it has the
+/// packet.
+fn fields_confused(packet: &Packet, list: &[u8]) -> Option<u32> {
+    let (source, protocol) = (shows("lookup-skips-source"), shows("lookup-skips-protocol"));
+    let late = shows("lookup-tests-record-late");
+    if !(source || protocol || late) {
+        return None;
+    }
+    for (place, record) in list[2..].chunks(RECORD_BYTES).enumerate() {
+        let rule = sheets::read_rule(record);
+        if rule.is_none() && !late {
+            return Some(refused(4));
+        }
+        let mut known = record.to_vec();
+        known[RECORD_BYTES - 1] = 0;
+        let mut packet = *packet;
+        let has = sheets::read_rule(&known).is_some_and(|rule| {
+            packet[0] = if source { rule.area.ranges[0].low } else { packet[0] };
+            packet[4] = if protocol { rule.area.ranges[4].low } else { packet[4] };
+            rule.area.has(&packet)
+        });
+        if has {
+            return Some(rule.map_or(refused(4), |r| 2 * place as u32 + r.action.number() as u32));
+        }
+    }
+    Some(refused(5))
 }
 
 pub fn lookup_table(mut packet: Packet, table: &[u32]) -> u32 {

@@ -6,8 +6,8 @@ use mathlib.Core.Path.{_≡_, refl, sym, _∙_, subst}
 use mathlib.Core.Bool.{true, false}
 use Prim.Native.Nat.{ℕ, _+_, _-_, _≤_, _<_}
 use lib.ListN.{length, getD}
-use borrow.Author.Count.{below-more}
 use borrow.Author.Tests.{not-true, not-false}
+use Rattle.lists.proofs.Both.{above-more}
 use Rattle.policy.specs.Fields.{fields, widths, highest}
 use Rattle.policy.specs.Ranges.{Region, Whole, within}
 use Rattle.policy.specs.Rules.{sound}
@@ -21,12 +21,12 @@ use Rattle.filter.proofs.Lookups.{Left, left-all, bad-rule, rule-fits, 
 use Rattle.filter.proofs.scan.Statement.{statement}
 use Rattle.filter.proofs.scan.Tie as tie
 
-abbrev Inv-loop : tie.InvT-loop
-Inv-loop list count values i₀ r bounds k₀ i k =
-    (i ≡ i₀) × (k ≤ fields) × ((j : ℕ) → j < k → InRange values (regionOf bounds) j)
+abbrev Inv-fields : tie.InvT-fields
+Inv-fields list count values i₀ r bounds k₀ i k =
+    (i ≡ i₀) × (k ≤ fields) × ((j : ℕ) → k ≤ j → j < fields → InRange values (regionOf bounds) j)
 
-abbrev μ-loop : tie.MeasureT-loop
-μ-loop list count values i₀ r bounds k₀ i k = fields - k
+abbrev μ-fields : tie.MeasureT-fields
+μ-fields list count values i₀ r bounds k₀ i k = k
 
 abbrev Inv-rules : tie.InvT-rules
 Inv-rules list count values i₀ i = (i ≤ count) × Left values list count i
@@ -35,11 +35,11 @@ abbrev μ-rules : tie.MeasureT-rules
 μ-rules list count values i₀ i = count - i
 
 -- What is known at the head of the loop over the fields: the rule in hand is the one at the place reached, and it is sound.
-module _ (a : tie.At-loop Inv-loop μ-loop Inv-rules μ-rules) where
-  abbrev turn : tie.At-rules Inv-loop μ-loop Inv-rules μ-rules
+module _ (a : tie.At-fields Inv-fields μ-fields Inv-rules μ-rules) where
+  abbrev turn : tie.At-rules Inv-fields μ-fields Inv-rules μ-rules
   turn = a .before .before .before .before .before .before
 
-  abbrev start : tie.Start Inv-loop μ-loop Inv-rules μ-rules
+  abbrev start : tie.Start Inv-fields μ-fields Inv-rules μ-rules
   start = turn .before .before .before
 
   more : turn .rules .i < start .args .count
@@ -65,88 +65,88 @@ module _ (a : tie.At-loop Inv-loop μ-loop Inv-rules μ-rules) where
 
   -- A field outside its range: the next rule is tried.
   passed : (k : ℕ) → k < fields → within (getD (start .args .p .values) k 0) (rangeAt region k) ≡ false
-      → Inv-rules (start .args .list .now) (start .args .count) (start .args .p .values) 0 (a .loop .i + 1)
+      → Inv-rules (start .args .list .now) (start .args .count) (start .args .p .values) 0 (a .fields .i + 1)
   passed k h e =
       let f = outside-at (start .args .p .values) region k (omega (arith, packet-long)) (omega (arith, region-long)) e in
-      subst (λ (n : ℕ). Inv-rules (start .args .list .now) (start .args .count) (start .args .p .values) 0 (n + 1)) (sym (a .loop .inv .0)) (
+      subst (λ (n : ℕ). Inv-rules (start .args .list .now) (start .args .count) (start .args .p .values) 0 (n + 1)) (sym (a .fields .inv .0)) (
         omega (arith, more),
         rule-misses (start .args .p .values) (start .args .list .now) (start .args .count) (turn .rules .i) (turn .rules .inv .1) more (ruleOf value) (a .before .before .before .before .rule-at .ensures) is-sound f,
       )
 
-rules-holds : tie.Need-rules-holds Inv-loop μ-loop Inv-rules μ-rules
+rules-holds : tie.Need-rules-holds Inv-fields μ-fields Inv-rules μ-rules
 rules-holds c = (search needs, left-all (c .before .before .args .p .values) (c .before .before .args .list .now) (c .before .before .args .count))
 
-mul-rule-at : tie.Need-mul-rule-at Inv-loop μ-loop Inv-rules μ-rules
+mul-rule-at : tie.Need-mul-rule-at Inv-fields μ-fields Inv-rules μ-rules
 mul-rule-at c = search needs
 
-add-rule-at : tie.Need-add-rule-at Inv-loop μ-loop Inv-rules μ-rules
+add-rule-at : tie.Need-add-rule-at Inv-fields μ-fields Inv-rules μ-rules
 add-rule-at c = search needs
 
-rule-at-requires : tie.Need-rule-at-requires Inv-loop μ-loop Inv-rules μ-rules
+rule-at-requires : tie.Need-rule-at-requires Inv-fields μ-fields Inv-rules μ-rules
 rule-at-requires c κs = search needs
 
-is-sound-requires : tie.Need-is-sound-requires Inv-loop μ-loop Inv-rules μ-rules
+is-sound-requires : tie.Need-is-sound-requires Inv-fields μ-fields Inv-rules μ-rules
 is-sound-requires c κs = search needs
 
-returns : tie.Need-returns Inv-loop μ-loop Inv-rules μ-rules
+returns : tie.Need-returns Inv-fields μ-fields Inv-rules μ-rules
 returns c =
     let t = c .before .before .before .before in
     let a = t .before .before .before .args in
     bad-rule (a .p .values) (a .list .now) (a .count) (t .rules .i) (t .rules .inv .1) (c .before .before .before .rules-test .taken) (ruleOf (c .before .before .rule-at .result)) (c .before .before .rule-at .ensures)
     (sym (c .before .is-sound .ensures) ∙ not-true _ (c .if1 .taken))
 
-loop-holds : tie.Need-loop-holds Inv-loop μ-loop Inv-rules μ-rules
-loop-holds c = (refl, search needs, λ j h. absurd (omega arith))
+fields-holds : tie.Need-fields-holds Inv-fields μ-fields Inv-rules μ-rules
+fields-holds c = (refl, search needs, λ j l h. absurd (omega arith))
 
-mul-is-within : tie.Need-mul-is-within Inv-loop μ-loop Inv-rules μ-rules
+sub-k : tie.Need-sub-k Inv-fields μ-fields Inv-rules μ-rules
+sub-k c = search needs
+
+mul-is-within : tie.Need-mul-is-within Inv-fields μ-fields Inv-rules μ-rules
 mul-is-within c = search needs
 
-array-read-is-within : tie.Need-array-read-is-within Inv-loop μ-loop Inv-rules μ-rules
+array-read-is-within : tie.Need-array-read-is-within Inv-fields μ-fields Inv-rules μ-rules
 array-read-is-within c = search needs
 
-low-at-requires : tie.Need-low-at-requires Inv-loop μ-loop Inv-rules μ-rules
+low-at-requires : tie.Need-low-at-requires Inv-fields μ-fields Inv-rules μ-rules
 low-at-requires c κs = search needs
 
-high-at-requires : tie.Need-high-at-requires Inv-loop μ-loop Inv-rules μ-rules
+high-at-requires : tie.Need-high-at-requires Inv-fields μ-fields Inv-rules μ-rules
 high-at-requires c κs = search needs
 
-is-within-requires : tie.Need-is-within-requires Inv-loop μ-loop Inv-rules μ-rules
+is-within-requires : tie.Need-is-within-requires Inv-fields μ-fields Inv-rules μ-rules
 is-within-requires c κs =
     let a = c .before .before .before in
-    let h = range-whole (region a) (a .loop .k) (region-whole a) (omega (arith, region-long a)) in
+    let h = range-whole (region a) (a .fields .k - 1) (region-whole a) (omega (arith, region-long a)) in
     omega (arith, c .before .low-at .ensures .0, c .high-at .ensures .0)
 
-add-i : tie.Need-add-i Inv-loop μ-loop Inv-rules μ-rules
+add-i : tie.Need-add-i Inv-fields μ-fields Inv-rules μ-rules
 add-i c = search needs
 
-rules-less : tie.Need-rules-less Inv-loop μ-loop Inv-rules μ-rules
+rules-less : tie.Need-rules-less Inv-fields μ-fields Inv-rules μ-rules
 rules-less c = search needs
 
-rules-again : tie.Need-rules-again Inv-loop μ-loop Inv-rules μ-rules
+rules-again : tie.Need-rules-again Inv-fields μ-fields Inv-rules μ-rules
 rules-again c =
     let a = c .before .before .before .before .before in
-    passed a (a .loop .k) (omega arith) (rw (c .before .before .before .low-at .ensures .0, c .before .before .high-at .ensures .0) at (sym (c .before .is-within .ensures) ∙ not-true _ (c .if2 .taken)))
+    passed a (a .fields .k - 1) (omega arith) (rw (c .before .before .before .low-at .ensures .0, c .before .before .high-at .ensures .0) at (sym (c .before .is-within .ensures) ∙ not-true _ (c .if2 .taken)))
 
-add-k : tie.Need-add-k Inv-loop μ-loop Inv-rules μ-rules
-add-k c = search needs
+fields-less : tie.Need-fields-less Inv-fields μ-fields Inv-rules μ-rules
+fields-less c = search needs
 
-loop-less : tie.Need-loop-less Inv-loop μ-loop Inv-rules μ-rules
-loop-less c = search needs
-
-loop-again : tie.Need-loop-again Inv-loop μ-loop Inv-rules μ-rules
-loop-again c =
+fields-again : tie.Need-fields-again Inv-fields μ-fields Inv-rules μ-rules
+fields-again c =
     let a = c .before .before .before .before .before in
     let h = rw (c .before .before .before .low-at .ensures .0, c .before .before .high-at .ensures .0) at (sym (c .before .is-within .ensures) ∙ not-false _ (c .if2 .left)) in
-    (a .loop .inv .0, omega arith, below-more (InRange (start a .args .p .values) (region a)) (a .loop .k) (a .loop .inv .2) h)
+    (a .fields .inv .0, omega arith, above-more (InRange (start a .args .p .values) (region a)) fields (a .fields .k) (a .fields .inv .2) h)
 
-returns-2 : tie.Need-returns-2 Inv-loop μ-loop Inv-rules μ-rules
+returns-2 : tie.Need-returns-2 Inv-fields μ-fields Inv-rules μ-rules
 returns-2 c =
     let a = c .before in
-    rw (a .loop .inv .0) (
+    rw (a .fields .inv .0) (
     rule-fits (start a .args .p .values) (start a .args .list .now) (start a .args .count) (turn a .rules .i) (turn a .rules .inv .1) (more a) (ruleOf (value a)) (a .before .before .before .before .rule-at .ensures) (is-sound a)
-    (all-inside (start a .args .p .values) (region a) (packet-long a ∙ sym (region-long a)) (λ j h. a .loop .inv .2 j (omega (arith, packet-long a)))))
+    (all-inside (start a .args .p .values) (region a) (packet-long a ∙ sym (region-long a)) (λ j h. a .fields .inv .2 j (omega arith) (omega (arith, packet-long a)))))
 
-returns-3 : tie.Need-returns-3 Inv-loop μ-loop Inv-rules μ-rules
+returns-3 : tie.Need-returns-3 Inv-fields μ-fields Inv-rules μ-rules
 returns-3 c =
     let t = c .before in
     let a = t .before .before .before .args in
@@ -156,8 +156,8 @@ pub scan-spec : {M : Type 1} → statement M
 scan-spec =
     tie.close
     (tie.spec
-    Inv-loop
-    μ-loop
+    Inv-fields
+    μ-fields
     Inv-rules
     μ-rules
     rules-holds
@@ -166,7 +166,8 @@ scan-spec =
     rule-at-requires
     is-sound-requires
     returns
-    loop-holds
+    fields-holds
+    sub-k
     mul-is-within
     array-read-is-within
     low-at-requires
@@ -175,8 +176,7 @@ scan-spec =
     add-i
     rules-less
     rules-again
-    add-k
-    loop-less
-    loop-again
+    fields-less
+    fields-again
     returns-2
     returns-3)

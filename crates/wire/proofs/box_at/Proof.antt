@@ -30,26 +30,10 @@ mul-w c = search needs
 array-read-w : tie.Need-array-read-w Inv-loop μ-loop
 array-read-w c = search needs
 
-add-number-at : tie.Need-add-number-at Inv-loop μ-loop
-add-number-at c =
-    let z = size-step widths (c .before .loop .k) (omega arith) in
-    omega arith
-
-number-at-requires : tie.Need-number-at-requires Inv-loop μ-loop
-number-at-requires c κs =
+range-at-requires : tie.Need-range-at-requires Inv-loop μ-loop
+range-at-requires c κs =
     let z = size-step widths (c .before .loop .k) (omega arith) in
     (omega arith, width-at (c .before .loop .k) (omega arith))
-
-mul-high : tie.Need-mul-high Inv-loop μ-loop
-mul-high c = search needs
-
-array-write-high : tie.Need-array-write-high Inv-loop μ-loop
-array-write-high c = search needs
-
-number-at-requires-2 : tie.Need-number-at-requires-2 Inv-loop μ-loop
-number-at-requires-2 c κs =
-    let z = size-step widths (c .before .before .loop .k) (omega arith) in
-    (omega arith, width-at (c .before .before .loop .k) (omega arith))
 
 mul-low : tie.Need-mul-low Inv-loop μ-loop
 mul-low c = search needs
@@ -57,14 +41,20 @@ mul-low c = search needs
 array-write-low : tie.Need-array-write-low Inv-loop μ-loop
 array-write-low c = search needs
 
+mul-high : tie.Need-mul-high Inv-loop μ-loop
+mul-high c = search needs
+
+array-write-high : tie.Need-array-write-high Inv-loop μ-loop
+array-write-high c = search needs
+
 add-p : tie.Need-add-p Inv-loop μ-loop
 add-p c =
-    let z = size-step widths (c .before .before .before .loop .k) (omega arith) in
+    let z = size-step widths (c .before .before .loop .k) (omega arith) in
     omega arith
 
 add-p-2 : tie.Need-add-p-2 Inv-loop μ-loop
 add-p-2 c =
-    let z = size-step widths (c .before .before .before .loop .k) (omega arith) in
+    let z = size-step widths (c .before .before .loop .k) (omega arith) in
     omega arith
 
 add-k : tie.Need-add-k Inv-loop μ-loop
@@ -75,15 +65,15 @@ loop-less c = search needs
 
 loop-again : tie.Need-loop-again Inv-loop μ-loop
 loop-again c =
-    let h = c .before .before .before .loop in
-    let s = c .before .before .before .before .before .args .s .now in
+    let h = c .before .before .loop in
+    let s = c .before .before .before .before .args .s .now in
     let t : h .k < fields = omega arith in
     let z = size-step widths (h .k) t in (
       omega arith,
       search needs,
       search needs,
       omega arith,
-      read-next widths (h .k) t s (h .low) (h .high) (h .p) (c .number-at2 .result) (c .before .number-at .result) _ (cc) (omega arith) (c .number-at2 .ensures) (c .before .number-at .ensures) (h .inv .4),
+      read-next widths (h .k) t s (h .low) (h .high) (h .p) (c .range-at .result .low) (c .range-at .result .high) _ (cc) (omega arith) (c .range-at .ensures .0) (c .range-at .ensures .1) (h .inv .4),
     )
 
 returns : tie.Need-returns Inv-loop μ-loop
@@ -100,13 +90,11 @@ box-at-spec =
     loop-holds
     mul-w
     array-read-w
-    add-number-at
-    number-at-requires
-    mul-high
-    array-write-high
-    number-at-requires-2
+    range-at-requires
     mul-low
     array-write-low
+    mul-high
+    array-write-high
     add-p
     add-p-2
     add-k

@@ -1,32 +1,39 @@
--- `Box::is_proper` meets its contract: the loop's invariant says what is left of the test of every field. Assumes nothing.
+-- `Box::is_proper` meets its contract: the loop's invariant says that every field passed is proper. Assumes nothing.
 use borrow.Author.Needs.{needs}
+use borrow.Author.Tests.{not-true, not-false}
 use native.Mathlib.Omega.{arith}
-use mathlib.Core.Path.{_≡_, refl, ap, _∙_}
-use Prim.Native.Nat.{_-_, _≤_}
-use lib.ListN.{length, getD, drop}
+use mathlib.Core.Path.{_≡_, ap, sym, _∙_}
+use mathlib.Core.Bool.{true}
+use Prim.Native.Nat.{ℕ, _-_, _≤_, _<_}
+use lib.ListN.{length, getD}
 use Rattle.policy.specs.Fields.{fields, highest}
-use Rattle.policy.specs.Ranges.{range, Region, properRange, proper}
+use Rattle.policy.specs.Ranges.{range, Region, properRange}
 use Rattle.policy.specs.Values.{regionOf}
 use Rattle.policy.specs.Steps.{rangeAt}
-use Rattle.lists.proofs.Both.{both-fails, both-passes, both-done}
+use Rattle.lists.proofs.Both.{fails-at, holds-of-each, above-more}
 use Rattle.policy.proofs.Values.{ranges-length, range-read}
 use Rattle.policy.proofs.Box.is_proper.Statement.{statement}
 use Rattle.policy.proofs.Box.is_proper.Tie as tie
 
+abbrev ProperAt : Region → ℕ → Type 0
+ProperAt b k = properRange (getD highest k 0) (rangeAt b k) ≡ true
+
 abbrev Inv-loop : tie.InvT-loop
 Inv-loop self k₀ k =
-    (k ≤ fields) × (length (regionOf self) ≡ fields)
-    × (proper highest (regionOf self) ≡ proper (drop k highest) (drop k (regionOf self)))
+    (k ≤ fields) × (length (regionOf self) ≡ fields) × ((j : ℕ) → k ≤ j → j < fields → ProperAt (regionOf self) j)
 
 abbrev μ-loop : tie.MeasureT-loop
-μ-loop self k₀ k = fields - k
+μ-loop self k₀ k = k
 
 loop-holds : tie.Need-loop-holds Inv-loop μ-loop
 loop-holds c =
     let b = c .args .self in
     let l : length (b .low) ≡ fields = search needs in
     let h : length (b .high) ≡ fields = search needs in
-    (search needs, ranges-length (b .low) (b .high) (cc) ∙ l, refl)
+    (search needs, ranges-length (b .low) (b .high) (cc) ∙ l, λ j u v. absurd (omega arith))
+
+sub-k : tie.Need-sub-k Inv-loop μ-loop
+sub-k c = search needs
 
 low-at-requires : tie.Need-low-at-requires Inv-loop μ-loop
 low-at-requires c κs = search needs
@@ -50,10 +57,10 @@ module _ (x : tie.After-is-proper-range Inv-loop μ-loop) where
   abbrev b : Region
   b = regionOf (turn .before .args .self)
 
-  tested : x .is-proper-range .result ≡ properRange (getD highest (turn .loop .k) 0) (rangeAt b (turn .loop .k))
+  tested : x .is-proper-range .result ≡ properRange (getD highest (turn .loop .k - 1) 0) (rangeAt b (turn .loop .k - 1))
   unfolding highest
   tested =
-      let k = turn .loop .k in
+      let k = turn .loop .k - 1 in
       x .is-proper-range .ensures ∙ ap (properRange (getD highest k 0)) (range-read b k (x .before .before .low-at .ensures .0) (x .before .high-at .ensures .0))
 
 returns : tie.Need-returns Inv-loop μ-loop
@@ -61,29 +68,25 @@ unfolding highest
 returns c =
     let x = c .before in
     let s = turn x .loop in
-    both-fails properRange highest (b x) (s .k) (s .inv .2) 0 (range 0 0) (omega arith) (omega arith) (tested x) (c .if1 .taken)
-
-add-k : tie.Need-add-k Inv-loop μ-loop
-add-k c = search needs
+    sym (fails-at properRange 0 (range 0 0) highest (b x) (s .k - 1) (omega arith) (omega arith) (sym (tested x) ∙ not-true _ (c .if1 .taken)))
 
 loop-less : tie.Need-loop-less Inv-loop μ-loop
 loop-less c = search needs
 
 loop-again : tie.Need-loop-again Inv-loop μ-loop
-unfolding highest
 loop-again c =
     let x = c .before in
     let s = turn x .loop in (
       omega arith,
       s .inv .1,
-      both-passes properRange highest (b x) (s .k) (s .inv .2) 0 (range 0 0) (omega arith) (omega arith) (tested x) (c .if1 .left),
+      above-more (ProperAt (b x)) fields (s .k) (s .inv .2) (sym (tested x) ∙ not-false _ (c .if1 .left)),
     )
 
 returns-2 : tie.Need-returns-2 Inv-loop μ-loop
 unfolding highest
 returns-2 c =
     let s = c .before .loop in
-    both-done properRange highest (regionOf (c .before .before .args .self)) (s .k) (s .inv .2) (omega arith) (omega arith)
+    sym (holds-of-each properRange 0 (range 0 0) highest (regionOf (c .before .before .args .self)) (sym (s .inv .1)) (λ k h. s .inv .2 k (omega arith) h))
 
 pub is-proper-spec : {M : Type 1} → statement M
 is-proper-spec =
@@ -92,13 +95,13 @@ is-proper-spec =
     Inv-loop
     μ-loop
     loop-holds
+    sub-k
     low-at-requires
     high-at-requires
     mul-is-proper-range
     array-read-is-proper-range
     is-proper-range-requires
     returns
-    add-k
     loop-less
     loop-again
     returns-2)
