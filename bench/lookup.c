@@ -35,7 +35,7 @@ uint32_t lookup_loops(uint32_t src, uint32_t dst, uint32_t sport, uint32_t dport
     return refusal(5);
 }
 
-/* Every field by hand, from the last. */
+/* Every field by hand, from the last. Both ends of a port range are read as one number, which takes fewer instructions than two. */
 uint32_t lookup_straight(uint32_t src, uint32_t dst, uint32_t sport, uint32_t dport, uint32_t proto, const uint8_t *list, size_t length) {
     uint32_t answer;
     size_t count = head(list, length, &answer);
@@ -43,7 +43,8 @@ uint32_t lookup_straight(uint32_t src, uint32_t dst, uint32_t sport, uint32_t dp
     const uint8_t *s = list + COUNT;
     for (size_t i = 0; i < count; i++, s += RECORD) {
         uint32_t low1 = four(s), high1 = four(s + 4), low2 = four(s + 8), high2 = four(s + 12);
-        uint32_t low3 = two(s + 16), high3 = two(s + 18), low4 = two(s + 20), high4 = two(s + 22);
+        uint32_t sports = four(s + 16), dports = four(s + 20);
+        uint32_t low3 = sports >> 16, high3 = sports & 65535, low4 = dports >> 16, high4 = dports & 65535;
         uint32_t low5 = s[24], high5 = s[25], action = s[26];
         if (low1 > high1 || low2 > high2 || low3 > high3 || low4 > high4 || low5 > high5 || action > 1) return refusal(4);
         if (proto < low5 || proto > high5) continue;
@@ -65,7 +66,8 @@ uint32_t lookup_ascending(uint32_t src, uint32_t dst, uint32_t sport, uint32_t d
     const uint8_t *s = list + COUNT;
     for (size_t i = 0; i < count; i++, s += RECORD) {
         uint32_t low1 = four(s), high1 = four(s + 4), low2 = four(s + 8), high2 = four(s + 12);
-        uint32_t low3 = two(s + 16), high3 = two(s + 18), low4 = two(s + 20), high4 = two(s + 22);
+        uint32_t sports = four(s + 16), dports = four(s + 20);
+        uint32_t low3 = sports >> 16, high3 = sports & 65535, low4 = dports >> 16, high4 = dports & 65535;
         uint32_t low5 = s[24], high5 = s[25], action = s[26];
         if (low1 > high1 || low2 > high2 || low3 > high3 || low4 > high4 || low5 > high5 || action > 1) return refusal(4);
         if (src < low1 || src > high1) continue;

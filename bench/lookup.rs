@@ -1,10 +1,10 @@
-// Lookup in lists of 1,024 rules of which the last fits: the library, three C versions and safe Rust.
+// Lookup in lists of 1,024 rules of which the last fits: the library, three C versions and safe Rust twice.
 use crate::measure::{head, medians, row, timed, Random, Version};
 use crate::sheets::{four, put, two, FIELDS, HIGHEST, MOST as RULES, RECORD, REFUSED, WIDTH};
 use std::hint::black_box;
 
 pub const CALLS: usize = 48;
-// As many for each kind of lists.
+// Damaged lists for each kind.
 const DAMAGES: usize = 300;
 
 pub type Packet = [u32; FIELDS];
@@ -60,8 +60,8 @@ pub fn decode(s: &[u8; RECORD]) -> Rule {
     }
 }
 
-// Safe Rust, with one comparison for both ends of a range and so one branch a field, or with two of each: fewer instructions, but more
-// that cannot be foretold. The records that are left tell the place of a rule, so that the loop has nothing else to count.
+// With one comparison for both ends of a range, and so one branch a field; or with one for each end: fewer instructions, more branches.
+// The records that are left tell the place of a rule, so that the loop has nothing else to count.
 #[inline(never)]
 fn rust<const ONE: bool>(p: &Packet, list: &[u8]) -> u32 {
     if list.len() < 2 {
@@ -91,10 +91,7 @@ fn rust<const ONE: bool>(p: &Packet, list: &[u8]) -> u32 {
                     continue 'rules;
                 }
             } else {
-                if p[k] < low[k] {
-                    continue 'rules;
-                }
-                if p[k] > high[k] {
+                if p[k] < low[k] || p[k] > high[k] {
                     continue 'rules;
                 }
             }

@@ -248,6 +248,8 @@ static void test_lookup(void)
     expect("protocol 17", lookup(15, 81, 17), 9);
     expect("protocol 256", lookup(15, 80, 256), REFUSAL(FOLDPLOVER_NOT_COMPLETE));
     expect("port 65,536", lookup(15, 65536, 6), REFUSAL(FOLDPLOVER_NOT_COMPLETE));
+    expect("source port 65,536", foldplover_lookup(1, 15, 65536, 80, 6, list, CELL_LENGTH),
+           REFUSAL(FOLDPLOVER_NOT_COMPLETE));
     expect("one byte", foldplover_lookup(1, 9, 5, 80, 6, list, 1),
            REFUSAL(FOLDPLOVER_LENGTH_WRONG));
     list[2 + RECORD + 26] = 2;
@@ -261,49 +263,74 @@ static void test_lookup(void)
 static const size_t field_begins[5] = {0, 8, 16, 20, 24};
 static const size_t field_widths[5] = {4, 4, 2, 2, 1};
 
-static void put_range(uint8_t *record, size_t field, uint8_t low, uint8_t high)
+/* Packets: every value the lowest of its field, the highest, and one in between whose bytes
+ * differ. */
+static const uint32_t lowest[5] = {0, 0, 0, 0, 0};
+static const uint32_t highest[5] = {0xffffffff, 0xffffffff, 0xffff, 0xffff, 0xff};
+static const uint32_t between[5] = {0x01fe02fd, 0xfc03fb04, 0x05fa, 0xf906, 0x7f};
+
+static void put_range(uint8_t *record, size_t field, uint32_t low, uint32_t high)
 {
     size_t width = field_widths[field];
-    uint8_t *range = record + field_begins[field];
-    memset(range, 0, 2 * width);
-    range[width - 1] = low;
-    range[2 * width - 1] = high;
+    size_t byte;
+    for (byte = 0; byte < width; byte++) {
+        size_t lower = 8 * (width - 1 - byte);
+        record[field_begins[field] + byte] = (uint8_t)(low >> lower);
+        record[field_begins[field] + width + byte] = (uint8_t)(high >> lower);
+    }
 }
 
-/* Packet 9, 9, 9, 9, 9 in a list of two records. */
-static uint32_t lookup_nines(const uint8_t *first, const uint8_t *second)
+static uint32_t lookup_two(const uint32_t *packet, const uint8_t *first, const uint8_t *second)
 {
     uint8_t two[2 + 2 * RECORD] = {0, 2};
     memcpy(two + 2, first, RECORD);
     memcpy(two + 2 + RECORD, second, RECORD);
-    return foldplover_lookup(9, 9, 9, 9, 9, two, sizeof two);
+    return foldplover_lookup(packet[0], packet[1], packet[2], packet[3], packet[4], two,
+                             sizeof two);
 }
 
-/* Each field by itself has a packet, or misses it at either end; and whichever field the packet
- * misses, a record that is bad in any one is refused, unless it stands behind the rule that
- * decides. */
+/* Each field by itself has its value, or misses it by one at either end. */
 static void test_lookup_fields(void)
+{
+    const uint32_t *const packets[3] = {lowest, between, highest};
+    uint8_t record[RECORD];
+    size_t packet, field;
+    for (packet = 0; packet < 3; packet++) {
+        for (field = 0; field < 5; field++) {
+            uint32_t value = packets[packet][field];
+            memcpy(record, full_allow, RECORD);
+            put_range(record, field, value, value);
+            expect("the value alone", lookup_two(packets[packet], record, full_allow), 1);
+            if (value > 0) {
+                put_range(record, field, 0, value - 1);
+                expect("all below it", lookup_two(packets[packet], record, full_allow), 3);
+            }
+            if (value < highest[field]) {
+                put_range(record, field, value + 1, highest[field]);
+                expect("all above it", lookup_two(packets[packet], record, full_allow), 3);
+            }
+        }
+    }
+}
+
+/* Whichever field the packet misses, a record that is bad in any one, or in its action, is refused,
+ * unless it stands behind the rule that decides. */
+static void test_lookup_bad(void)
 {
     uint8_t record[RECORD];
     size_t missed, bad;
     for (missed = 0; missed < 5; missed++) {
-        memcpy(record, full_allow, RECORD);
-        put_range(record, missed, 9, 9);
-        expect("the field has it alone", lookup_nines(record, full_allow), 1);
-        put_range(record, missed, 0, 8);
-        expect("above the field", lookup_nines(record, full_allow), 3);
-        put_range(record, missed, 10, 10);
-        expect("below the field", lookup_nines(record, full_allow), 3);
-        record[RECORD - 1] = 2;
-        expect("missed, and action 2", lookup_nines(record, full_allow),
-               REFUSAL(FOLDPLOVER_RULE_BAD));
-        for (bad = 0; bad < 5; bad++) {
+        for (bad = 0; bad < 6; bad++) {
             memcpy(record, full_allow, RECORD);
-            put_range(record, missed, 10, 10);
-            put_range(record, bad, 10, 9);
-            expect("missed, and a low above its high", lookup_nines(record, full_allow),
+            put_range(record, missed, between[missed] + 1, highest[missed]);
+            if (bad < 5) {
+                put_range(record, bad, between[bad] + 1, between[bad]);
+            } else {
+                record[RECORD - 1] = 2;
+            }
+            expect("bad, and missed", lookup_two(between, record, full_allow),
                    REFUSAL(FOLDPLOVER_RULE_BAD));
-            expect("bad behind the one that decides", lookup_nines(full_allow, record), 1);
+            expect("bad behind the one that decides", lookup_two(between, full_allow, record), 1);
         }
     }
 }
@@ -820,6 +847,7 @@ int main(void)
     test_lookup_table();
     test_lookup();
     test_lookup_fields();
+    test_lookup_bad();
     test_edits();
     test_origin();
     test_origin_after_edits();

@@ -59,8 +59,8 @@ pub fn is_inside(p: Packet, bounds: Box) -> bool
     missed == 0
 }
 
-// The rules of a list of so many, one after another. A record is tested first; then its fields are tried from the protocol up to the
-// source address, and one outside its range ends the rule.
+// The rules of a list of so many, one after another. A record is tested first. Then its fields are tried from the last, the protocol,
+// to the first, since in a storm most rules miss in protocol or destination port; one outside its range ends the rule.
 fn scan(p: Packet, list: &[u8], count: usize) -> Verdict
     requires { ⌜ length (now list) ≡ listSize count ⌝ }
     ensures { λ r. ⌜ verdict r ≡ lookFrom 0 (packetOf p) (rulesIn count (drop countSize (now (list .entry)))) ⌝ }

@@ -1,4 +1,5 @@
--- A loop over two lists side by side: what it knows of a test of both, at turn k or, in any order, at single places. Assumes nothing.
+-- A loop over two lists side by side: what it knows of a test of both, at turn k or, in any order, at single places; and what a loop
+-- that counts down knows. Assumes nothing.
 use mathlib.Core.Path.{_≡_, refl, ap, sym, subst, _∙_}
 use mathlib.Core.List.{List, [], _∷_}
 use mathlib.Core.Bool.{Bool, true, false, not, _&&_}

@@ -206,8 +206,8 @@ impl Box {
         true
     }
 
-    // No low above its high, no value above its field's highest. Tested from the last field on, since a lookup then tries that field
-    // first: with the other order the compiler takes one instruction more for it.
+    // No low above its high, no value above its field's highest. From the last field to the first, as a lookup tries them afterwards:
+    // the other way round a rule that misses in the protocol takes one instruction more.
     pub fn is_proper(self) -> bool
         ensures { λ r. ⌜ r ≡ proper highest (regionOf self) ⌝ }
     {

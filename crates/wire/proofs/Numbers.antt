@@ -138,7 +138,7 @@ turned-four x =
     low-first 3 ((a * 256 + b) * 256 + c) d (omega arith)
     ∙ ap (_∷_ d) (low-first 2 (a * 256 + b) c (omega arith) ∙ ap (_∷_ c) (low-first 1 a b (omega arith) ∙ rw e))
 
--- A number that is another one turned, and that one's bytes: its upper and its lower half.
+-- A number turned from the one whose bytes are d, c, b, a: a and b make its upper half, c and d its lower one.
 pub turned-halves : (r a b c d : ℕ) → r < 2 ^ 32 → a < 256 → b < 256 → c < 256 → d < 256
     → lowFirst 4 r ≡ numberBytes 4 (d * 16777216 + c * 65536 + b * 256 + a) → (r / 65536 ≡ a * 256 + b) × (r % 65536 ≡ c * 256 + d)
 unfolding lowFirst numberFrom Each

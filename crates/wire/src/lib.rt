@@ -68,8 +68,8 @@ fn turned_two(x: u32) -> u32
     x % 256 * 256 + x / 256 % 256
 }
 
-// The numbers of the two bytes at `at` and of the two behind them, the first times 65536 and the second in one. The compiler loads
-// the four bytes at once, since they are taken the lowest first and turned; of four_at's sum it would make two loads for the two.
+// Two numbers of two bytes each, from `at` on, in one: the first times 65536, plus the second. The bytes are summed as if the lowest
+// came first, and the sum is turned: of that the compiler makes one load. Of four_at's sum, parted again, it makes two.
 fn both_at(s: &[u8], at: usize) -> u32
     requires { ⌜ at + 4 ≤ length (now s) ⌝ }
     ensures { λ r. ⌜ (r / 65536 ≡ numberIn (take 2 (drop at (now (s .entry))))) × (r % 65536 ≡ numberIn (take 2 (drop (at + 2) (now (s .entry))))) ⌝ }
@@ -124,8 +124,8 @@ pub fn number_at(s: &[u8], at: usize, w: usize) -> u32
     one_at(s, at)
 }
 
-// The range whose two numbers of w bytes begin at `at`. A high is read before its low, and so the compiler also compares it first: one
-// compare less for a piece that lies below an allow, one more for a piece above it.
+// The range whose two numbers of w bytes begin at `at`. Those of a port are read at once. Of the others the high is read first, and
+// so the compiler also compares it first: one compare less for a piece that lies below an allow, one more for a piece above it.
 fn range_at(s: &[u8], at: usize, w: usize) -> Range
     requires { ⌜ (at + w + w ≤ length (now s)) × (isWidth w ≡ true) ⌝ }
     ensures { λ r. ⌜ (r .low ≡ numberIn (take w (drop at (now (s .entry))))) × (r .high ≡ numberIn (take w (drop (at + w) (now (s .entry))))) ⌝ }

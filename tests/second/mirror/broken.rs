@@ -399,10 +399,11 @@ fn fields_confused(packet: &Packet, list: &[u8]) -> Option<u32> {
         if rule.is_none() && !late {
             return Some(refused(4));
         }
-        let mut known = record.to_vec();
-        known[RECORD_BYTES - 1] = 0;
+        // With a good action the ranges can be read where the action alone is bad.
+        let mut with_deny = record.to_vec();
+        with_deny[RECORD_BYTES - 1] = 0;
         let mut packet = *packet;
-        let has = sheets::read_rule(&known).is_some_and(|rule| {
+        let has = sheets::read_rule(&with_deny).is_some_and(|rule| {
             packet[0] = if source { rule.area.ranges[0].low } else { packet[0] };
             packet[4] = if protocol { rule.area.ranges[4].low } else { packet[4] };
             rule.area.has(&packet)
