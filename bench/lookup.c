@@ -35,47 +35,33 @@ uint32_t lookup_loops(uint32_t src, uint32_t dst, uint32_t sport, uint32_t dport
     return refusal(5);
 }
 
-/* Every field by hand, from the last. Both ends of a port range are read as one number, which takes fewer instructions than two. */
-uint32_t lookup_straight(uint32_t src, uint32_t dst, uint32_t sport, uint32_t dport, uint32_t proto, const uint8_t *list, size_t length) {
-    uint32_t answer;
-    size_t count = head(list, length, &answer);
-    if (count == 0) return answer;
-    const uint8_t *s = list + COUNT;
-    for (size_t i = 0; i < count; i++, s += RECORD) {
-        uint32_t low1 = four(s), high1 = four(s + 4), low2 = four(s + 8), high2 = four(s + 12);
-        uint32_t sports = four(s + 16), dports = four(s + 20);
-        uint32_t low3 = sports >> 16, high3 = sports & 65535, low4 = dports >> 16, high4 = dports & 65535;
-        uint32_t low5 = s[24], high5 = s[25], action = s[26];
-        if (low1 > high1 || low2 > high2 || low3 > high3 || low4 > high4 || low5 > high5 || action > 1) return refusal(4);
-        if (proto < low5 || proto > high5) continue;
-        if (dport < low4 || dport > high4) continue;
-        if (sport < low3 || sport > high3) continue;
-        if (dst < low2 || dst > high2) continue;
-        if (src < low1 || src > high1) continue;
-        return 2 * (uint32_t)i + action;
-    }
-    return refusal(5);
-}
+#define OUTSIDE(value, k) (value < low##k || value > high##k)
 
-/* The same from the first field, to show what the order is worth. It is written out since gcc gives worse loops to both where they share
-   the reading of a record. */
-uint32_t lookup_ascending(uint32_t src, uint32_t dst, uint32_t sport, uint32_t dport, uint32_t proto, const uint8_t *list, size_t length) {
-    uint32_t answer;
-    size_t count = head(list, length, &answer);
-    if (count == 0) return answer;
-    const uint8_t *s = list + COUNT;
-    for (size_t i = 0; i < count; i++, s += RECORD) {
-        uint32_t low1 = four(s), high1 = four(s + 4), low2 = four(s + 8), high2 = four(s + 12);
-        uint32_t sports = four(s + 16), dports = four(s + 20);
-        uint32_t low3 = sports >> 16, high3 = sports & 65535, low4 = dports >> 16, high4 = dports & 65535;
-        uint32_t low5 = s[24], high5 = s[25], action = s[26];
-        if (low1 > high1 || low2 > high2 || low3 > high3 || low4 > high4 || low5 > high5 || action > 1) return refusal(4);
-        if (src < low1 || src > high1) continue;
-        if (dst < low2 || dst > high2) continue;
-        if (sport < low3 || sport > high3) continue;
-        if (dport < low4 || dport > high4) continue;
-        if (proto < low5 || proto > high5) continue;
-        return 2 * (uint32_t)i + action;
+/* Every field by hand, in the order given. Both ends of a port range are read as one number, which takes fewer instructions than two. It is
+   a macro, since gcc gives the two functions worse loops where they share one. */
+#define STRAIGHT(name, first, second, third, fourth, fifth)                                                                              \
+    uint32_t name(uint32_t src, uint32_t dst, uint32_t sport, uint32_t dport, uint32_t proto, const uint8_t *list, size_t length) {     \
+        uint32_t answer;                                                                                                                 \
+        size_t count = head(list, length, &answer);                                                                                      \
+        if (count == 0) return answer;                                                                                                   \
+        const uint8_t *s = list + COUNT;                                                                                                 \
+        for (size_t i = 0; i < count; i++, s += RECORD) {                                                                                \
+            uint32_t low1 = four(s), high1 = four(s + 4), low2 = four(s + 8), high2 = four(s + 12);                                      \
+            uint32_t sports = four(s + 16), dports = four(s + 20);                                                                       \
+            uint32_t low3 = sports >> 16, high3 = sports & 65535, low4 = dports >> 16, high4 = dports & 65535;                           \
+            uint32_t low5 = s[24], high5 = s[25], action = s[26];                                                                        \
+            if (low1 > high1 || low2 > high2 || low3 > high3 || low4 > high4 || low5 > high5 || action > 1) return refusal(4);           \
+            if (first) continue;                                                                                                         \
+            if (second) continue;                                                                                                        \
+            if (third) continue;                                                                                                         \
+            if (fourth) continue;                                                                                                        \
+            if (fifth) continue;                                                                                                         \
+            return 2 * (uint32_t)i + action;                                                                                             \
+        }                                                                                                                                \
+        return refusal(5);                                                                                                               \
     }
-    return refusal(5);
-}
+
+STRAIGHT(lookup_straight, OUTSIDE(proto, 5), OUTSIDE(dport, 4), OUTSIDE(sport, 3), OUTSIDE(dst, 2), OUTSIDE(src, 1))
+
+/* From the first field on, to show what the order is worth. */
+STRAIGHT(lookup_ascending, OUTSIDE(src, 1), OUTSIDE(dst, 2), OUTSIDE(sport, 3), OUTSIDE(dport, 4), OUTSIDE(proto, 5))

@@ -1,22 +1,27 @@
--- `Box::is_full` meets its contract: the loop's invariant says what is left of the test of every field. Assumes nothing.
+-- `Box::is_full` meets its contract: the loop's invariant says that every field passed is full. Assumes nothing.
 use borrow.Author.Needs.{needs}
+use borrow.Author.Count.{below-more}
+use borrow.Author.Tests.{not-true, not-false}
 use native.Mathlib.Omega.{arith}
-use mathlib.Core.Path.{_≡_, refl, ap, _∙_}
-use Prim.Native.Nat.{_-_, _≤_}
-use lib.ListN.{length, getD, drop}
+use mathlib.Core.Path.{_≡_, ap, sym, _∙_}
+use mathlib.Core.Bool.{true}
+use Prim.Native.Nat.{ℕ, _-_, _≤_, _<_}
+use lib.ListN.{length, getD}
 use Rattle.policy.specs.Fields.{fields, highest}
-use Rattle.policy.specs.Ranges.{range, Region, fullRange, isFull}
+use Rattle.policy.specs.Ranges.{range, Region, fullRange}
 use Rattle.policy.specs.Values.{regionOf}
 use Rattle.policy.specs.Steps.{rangeAt}
-use Rattle.lists.proofs.Both.{both-fails, both-passes, both-done}
+use Rattle.lists.proofs.Both.{fails-at, holds-of-each}
 use Rattle.policy.proofs.Values.{ranges-length, range-read}
 use Rattle.policy.proofs.Box.is_full.Statement.{statement}
 use Rattle.policy.proofs.Box.is_full.Tie as tie
 
+abbrev FullAt : Region → ℕ → Type 0
+FullAt b k = fullRange (getD highest k 0) (rangeAt b k) ≡ true
+
 abbrev Inv-loop : tie.InvT-loop
 Inv-loop self k₀ k =
-    (k ≤ fields) × (length (regionOf self) ≡ fields)
-    × (isFull highest (regionOf self) ≡ isFull (drop k highest) (drop k (regionOf self)))
+    (k ≤ fields) × (length (regionOf self) ≡ fields) × ((j : ℕ) → j < k → FullAt (regionOf self) j)
 
 abbrev μ-loop : tie.MeasureT-loop
 μ-loop self k₀ k = fields - k
@@ -26,7 +31,7 @@ loop-holds c =
     let b = c .args .self in
     let l : length (b .low) ≡ fields = search needs in
     let h : length (b .high) ≡ fields = search needs in
-    (search needs, ranges-length (b .low) (b .high) (cc) ∙ l, refl)
+    (search needs, ranges-length (b .low) (b .high) (cc) ∙ l, λ j h. absurd (omega arith))
 
 low-at-requires : tie.Need-low-at-requires Inv-loop μ-loop
 low-at-requires c κs = search needs
@@ -61,7 +66,7 @@ unfolding highest
 returns c =
     let x = c .before in
     let s = turn x .loop in
-    both-fails fullRange highest (b x) (s .k) (s .inv .2) 0 (range 0 0) (omega arith) (omega arith) (tested x) (c .if1 .taken)
+    sym (fails-at fullRange 0 (range 0 0) highest (b x) (s .k) (omega arith) (omega arith) (sym (tested x) ∙ not-true _ (c .if1 .taken)))
 
 add-k : tie.Need-add-k Inv-loop μ-loop
 add-k c = search needs
@@ -70,20 +75,19 @@ loop-less : tie.Need-loop-less Inv-loop μ-loop
 loop-less c = search needs
 
 loop-again : tie.Need-loop-again Inv-loop μ-loop
-unfolding highest
 loop-again c =
     let x = c .before in
     let s = turn x .loop in (
       omega arith,
       s .inv .1,
-      both-passes fullRange highest (b x) (s .k) (s .inv .2) 0 (range 0 0) (omega arith) (omega arith) (tested x) (c .if1 .left),
+      below-more (FullAt (b x)) (s .k) (s .inv .2) (sym (tested x) ∙ not-false _ (c .if1 .left)),
     )
 
 returns-2 : tie.Need-returns-2 Inv-loop μ-loop
 unfolding highest
 returns-2 c =
     let s = c .before .loop in
-    both-done fullRange highest (regionOf (c .before .before .args .self)) (s .k) (s .inv .2) (omega arith) (omega arith)
+    sym (holds-of-each fullRange 0 (range 0 0) highest (regionOf (c .before .before .args .self)) (sym (s .inv .1)) (λ k h. s .inv .2 k (omega arith)))
 
 pub is-full-spec : {M : Type 1} → statement M
 is-full-spec =

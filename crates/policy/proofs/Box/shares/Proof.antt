@@ -1,23 +1,29 @@
--- `Box::shares` meets its contract: the loop's invariant says what is left of the test of every field. Assumes nothing.
+-- `Box::shares` meets its contract: the loop's invariant says that in every field passed the ranges meet. Assumes nothing.
 use borrow.Author.Needs.{needs}
+use borrow.Author.Count.{below-more}
+use borrow.Author.Tests.{not-true, not-false}
 use native.Mathlib.Omega.{arith}
-use mathlib.Core.Path.{_≡_, refl, ap₂, _∙_}
-use Prim.Native.Nat.{_-_, _≤_}
-use lib.ListN.{length, drop}
-use Rattle.lists.proofs.Both.{both-fails, both-passes, both-done}
+use mathlib.Core.Path.{_≡_, ap₂, sym, _∙_}
+use mathlib.Core.Bool.{true}
+use Prim.Native.Nat.{ℕ, _-_, _≤_, _<_}
+use lib.ListN.{length}
+use Rattle.lists.proofs.Both.{fails-at, holds-of-each}
 use Rattle.policy.specs.Fields.{fields}
 use Rattle.policy.specs.Ranges.{range, Region}
-use Rattle.policy.specs.Cut.{meets, share}
+use Rattle.policy.specs.Cut.{meets}
 use Rattle.policy.specs.Values.{regionOf}
 use Rattle.policy.specs.Steps.{rangeAt}
 use Rattle.policy.proofs.Values.{ranges-length, range-read}
 use Rattle.policy.proofs.Box.shares.Statement.{statement}
 use Rattle.policy.proofs.Box.shares.Tie as tie
 
+abbrev MeetAt : Region → Region → ℕ → Type 0
+MeetAt d a k = meets (rangeAt d k) (rangeAt a k) ≡ true
+
 abbrev Inv-loop : tie.InvT-loop
 Inv-loop self a k₀ k =
     (k ≤ fields) × (length (regionOf self) ≡ fields) × (length (regionOf a) ≡ fields)
-    × (share (regionOf self) (regionOf a) ≡ share (drop k (regionOf self)) (drop k (regionOf a)))
+    × ((j : ℕ) → j < k → MeetAt (regionOf self) (regionOf a) j)
 
 abbrev μ-loop : tie.MeasureT-loop
 μ-loop self a k₀ k = fields - k
@@ -30,7 +36,7 @@ loop-holds c =
     let h : length (d .high) ≡ fields = search needs in
     let l′ : length (a .low) ≡ fields = search needs in
     let h′ : length (a .high) ≡ fields = search needs in
-    (search needs, ranges-length (d .low) (d .high) (cc) ∙ l, ranges-length (a .low) (a .high) (cc) ∙ l′, refl)
+    (search needs, ranges-length (d .low) (d .high) (cc) ∙ l, ranges-length (a .low) (a .high) (cc) ∙ l′, λ j h. absurd (omega arith))
 
 low-at-requires : tie.Need-low-at-requires Inv-loop μ-loop
 low-at-requires c κs = search needs
@@ -67,7 +73,7 @@ returns : tie.Need-returns Inv-loop μ-loop
 returns c =
     let x = c .before in
     let s = turn x .loop in
-    both-fails meets (d x) (a x) (s .k) (s .inv .3) (range 0 0) (range 0 0) (omega arith) (omega arith) (tested x) (c .if1 .taken)
+    sym (fails-at meets (range 0 0) (range 0 0) (d x) (a x) (s .k) (omega arith) (omega arith) (sym (tested x) ∙ not-true _ (c .if1 .taken)))
 
 add-k : tie.Need-add-k Inv-loop μ-loop
 add-k c = search needs
@@ -82,14 +88,14 @@ loop-again c =
       omega arith,
       s .inv .1,
       s .inv .2,
-      both-passes meets (d x) (a x) (s .k) (s .inv .3) (range 0 0) (range 0 0) (omega arith) (omega arith) (tested x) (c .if1 .left),
+      below-more (MeetAt (d x) (a x)) (s .k) (s .inv .3) (sym (tested x) ∙ not-false _ (c .if1 .left)),
     )
 
 returns-2 : tie.Need-returns-2 Inv-loop μ-loop
 returns-2 c =
     let s = c .before .loop in
     let q = c .before .before .args in
-    both-done meets (regionOf (q .self)) (regionOf (q .a)) (s .k) (s .inv .3) (omega arith) (omega arith)
+    sym (holds-of-each meets (range 0 0) (range 0 0) (regionOf (q .self)) (regionOf (q .a)) (s .inv .1 ∙ sym (s .inv .2)) (λ k h. s .inv .3 k (omega arith)))
 
 pub shares-spec : {M : Type 1} → statement M
 shares-spec =
