@@ -1,4 +1,6 @@
 // Check: a pair sheet read, its groups drafted anew, and the draft compared with section C.
+#![tactic(auto)]
+
 ghost use Rattle.std.specs.Prelude.{◌≡◌, true, ◌≤◌, length, drop};
 ghost use Rattle.policy.specs.Fields.{work_size};
 ghost use Rattle.wire.specs.Buffers.{zeroed};

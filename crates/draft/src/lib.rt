@@ -1,4 +1,6 @@
 // Section C under construction: groups worked out anew, one behind another in a local draft, and written to the sheet from there.
+#![tactic(auto)]
+
 ghost use Rattle.std.specs.Prelude.{◌≡◌, ◌++◌, ◌+◌, ◌*◌, ◌≤◌, ◌<◌, length, drop};
 ghost use Rattle.std.proofs.lemmas.List.Edits.{sets};
 ghost use Rattle.policy.specs.Fields.{box_size, count_size, limits};
@@ -13,7 +15,7 @@ use policy::{BOX_BYTES, COUNT_BYTES, GATE_MOST, RECORD_BYTES, TOTAL_MOST};
 pub const DRAFT_BYTES: usize = COUNT_BYTES * GATE_MOST + BOX_BYTES * TOTAL_MOST;
 
 // How many groups were worked out, how many boxes there are with those counted before, and where the groups' bytes end; or number 6.
-#[derive(Drop)]
+#[derive(Clone, Copy)]
 pub enum Drafted {
     Groups {
         groups: usize,

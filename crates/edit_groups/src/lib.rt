@@ -1,6 +1,8 @@
 // The groups of an edited A: which of them are kept and which are worked out anew, and the last step of the edit. With one rule at
 // most to work out, its group and those kept behind it are joined in the work buffer; with more of them, they are drafted as in a
 // move.
+#![tactic(auto)]
+
 ghost use Rattle.std.specs.Prelude.{◌≡◌, ◌+◌, ◌*◌, ◌≤◌, length, drop};
 ghost use Rattle.policy.specs.Fields.{record_size};
 ghost use Rattle.policy.specs.Rules.{any_allow};
@@ -20,7 +22,7 @@ use sheet::PairLayout;
 
 // Where the groups of an edited A, which has `count` rules, come from: those before `earlier` and those from `later` up to `groups`
 // are kept, and those of the rules from `place` up to `to` are worked out anew between them.
-#[derive(Drop)]
+#[derive(Clone, Copy)]
 pub struct Around {
     pub earlier: usize,
     pub later: usize,

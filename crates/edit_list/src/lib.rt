@@ -1,5 +1,7 @@
 // The list that an edit changes, in bytes: records put in and taken out at its place, if there is such a place (9) and the record is
 // whole (3).
+#![tactic(auto)]
+
 ghost use Rattle.std.specs.Prelude.{◌≡◌, ◌+◌, ◌*◌, ◌≤◌, ◌<◌, length};
 ghost use Rattle.std.proofs.lemmas.List.Edits.{sets};
 ghost use Rattle.policy.specs.Fields.{count_size, record_size};

@@ -1,4 +1,6 @@
 // The pair sheet of an edit, written around what stands in its buffer already: what is kept is moved by one record at most.
+#![tactic(auto)]
+
 ghost use Rattle.std.specs.Prelude.{◌≡◌, ◌+◌, length, take, drop};
 ghost use Rattle.std.proofs.lemmas.List.Edits.{sets};
 ghost use Rattle.wire.specs.Buffers.{filled};
@@ -9,7 +11,7 @@ use policy::{COUNT_BYTES, RECORD_BYTES};
 use sheet::{PAIR_BYTES, PairLayout};
 
 // The groups of an edited A that are kept: so many before the place, of so many bytes, and so many behind it.
-#[derive(Drop)]
+#[derive(Clone, Copy)]
 pub struct Kept {
     pub before: usize,
     pub size: usize,

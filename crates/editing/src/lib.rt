@@ -1,6 +1,8 @@
 // Edit: a pair sheet changed at one place of A or of B. Sizes (1), the sheet read, the list and its place (9), the record, the new
 // list made in another buffer and read there, its groups and the room for them, the sheet written, the work buffer cleared. The
 // sheet is not touched before the edit is known to be accepted.
+#![tactic(auto)]
+
 ghost use Rattle.std.specs.Prelude.{◌≡◌, ◌+◌, ◌≤◌, length};
 ghost use Rattle.policy.specs.Fields.{record_size, work_size};
 ghost use Rattle.sheet.specs.Orders.{gate_size};

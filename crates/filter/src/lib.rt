@@ -1,4 +1,6 @@
 // Whether a box has a packet, and lookup of a packet in list bytes.
+#![tactic(auto)]
+
 ghost use Rattle.std.specs.Prelude.{◌≡◌, ◌≤◌, length, drop};
 ghost use Rattle.policy.specs.Fields.{count_size, limits};
 ghost use Rattle.policy.specs.Ranges.{range, within, inside, Whole};
@@ -12,7 +14,7 @@ use policy::{Box, COUNT_BYTES, FIELDS, Packet, RECORD_BYTES, Refusal, TOTAL_MOST
 use wire::{count_at, rule_at};
 
 // The rule that decides, or the refusal.
-#[derive(Drop)]
+#[derive(Clone, Copy)]
 pub enum Verdict {
     Decided { place: usize, action: u32 },
     Refused(Refusal),

@@ -1,4 +1,6 @@
 // The calls for C. Each hands over to the call of the crate below, and turns its answer into one number.
+#![tactic(auto)]
+
 pub mod lookup_table;
 
 ghost use Rattle.std.specs.Prelude.{◌≡◌, [], ◌∷◌};

@@ -1,5 +1,7 @@
 // The group of a deny rule. The first half of the work buffer holds the pieces; what an allow leaves of them is stored in the
 // second half, and then copied down.
+#![tactic(auto)]
+
 ghost use Rattle.std.specs.Prelude.{◌≡◌, ◌∷◌, [], true, ◌+◌, ◌*◌, ◌≤◌, ◌<◌, min, max, length, take, drop};
 ghost use Rattle.std.proofs.lemmas.List.Edits.{sets};
 ghost use Rattle.policy.specs.Fields.{fields, box_size};
@@ -18,7 +20,7 @@ pub const WORK_BYTES: usize = 2 * PIECES_MOST * BOX_BYTES;
 const HALF_BYTES: usize = PIECES_MOST * BOX_BYTES;
 
 // How many boxes the group has, which then stand at the front of the work buffer; or more pieces than number 6 allows.
-#[derive(Drop)]
+#[derive(Clone, Copy)]
 pub enum Worked {
     Boxes(usize),
     TooMany,
@@ -37,7 +39,7 @@ fn smaller(x: u32, y: u32) -> u32
 }
 
 // One field of a cut: the range of the box that is cut, and that of the allow.
-#[derive(Drop)]
+#[derive(Clone, Copy)]
 struct Ends {
     low: u32,
     high: u32,
@@ -46,7 +48,7 @@ struct Ends {
 }
 
 // A cut under way: the box that goes on, and how many boxes are stored.
-#[derive(Drop)]
+#[derive(Clone, Copy)]
 struct Underway {
     rest: Box,
     stored: usize,
@@ -60,8 +62,8 @@ fn copy_box(work: &mut [u8], from: usize, to: usize)
     let mut held = [0u8; BOX_BYTES];
     let from_end = from + BOX_BYTES;
     let to_end = to + BOX_BYTES;
-    bytes::copy(&work[from..from_end], &mut held);
-    bytes::copy(&held, &mut work[to..to_end]);
+    held.copy_from_slice(&work[from..from_end]);
+    work[to..to_end].copy_from_slice(&held);
 }
 
 // The box that begins at `at`, stored behind m others.

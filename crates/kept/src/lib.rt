@@ -1,4 +1,6 @@
 // Groups that stand in a sheet: counted, and the gap found that some of them leave.
+#![tactic(auto)]
+
 ghost use Rattle.std.specs.Prelude.{◌≡◌, ◌+◌, ◌≤◌, length};
 ghost use Rattle.kept.specs.Steps.{run_size};
 ghost use Rattle.sheet.specs.Steps.{box_count};
@@ -6,7 +8,7 @@ ghost use Rattle.sheet.specs.Steps.{box_count};
 use policy::{BOX_BYTES, COUNT_BYTES};
 
 // Where the groups before those that go end, where the ones behind them begin, and how many boxes go.
-#[derive(Drop)]
+#[derive(Clone, Copy)]
 pub struct Gap {
     pub at: usize,
     pub next: usize,

@@ -1,4 +1,6 @@
 // Cell list and gate list: a pair sheet checked, and a list to load written from it.
+#![tactic(auto)]
+
 ghost use Rattle.std.specs.Prelude.{◌≡◌, ◌+◌, ◌*◌, ◌≤◌, length, drop};
 ghost use Rattle.std.proofs.lemmas.List.Edits.{sets};
 ghost use Rattle.policy.specs.Fields.{box_size, count_size, record_size};

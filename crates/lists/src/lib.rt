@@ -1,1 +1,2 @@
 // Laws on lists and tests that the crates above share. There is no code here.
+#![tactic(auto)]

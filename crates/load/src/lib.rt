@@ -1,4 +1,6 @@
 // The load of packets on a pair sheet that passes check: one packet, a block of them, the gain; and the hits between two readings.
+#![tactic(auto)]
+
 ghost use Rattle.std.specs.Prelude.{◌≡◌, ◌+◌, ◌*◌, ◌<◌, ◌≤◌, [], ◌∷◌, length, drop};
 ghost use Rattle.policy.specs.Fields.{limits};
 ghost use Rattle.policy.specs.Values.{packet_of};
@@ -19,7 +21,7 @@ pub const PACKET_BYTES: usize = BOX_BYTES / 2;
 // The most packets of one report.
 pub const PACKETS_MOST: usize = 1000000;
 
-#[derive(Drop)]
+#[derive(Clone, Copy)]
 pub struct Load {
     pub packets: u64,
     pub before: u64,
@@ -27,14 +29,14 @@ pub struct Load {
     pub forwarded: u64,
 }
 
-#[derive(Drop)]
+#[derive(Clone, Copy)]
 pub struct Gain {
     pub numerator: u64,
     pub denominator: u64,
 }
 
 // A load with a block of packets added, or the refusal.
-#[derive(Drop)]
+#[derive(Clone, Copy)]
 pub enum Added {
     Sum(Load),
     Refused(Refusal),

@@ -1,5 +1,7 @@
 // Move: an order sheet read, all groups of its A drafted, and the pair sheet written if there is room for the boxes. Nothing that is
 // lent is touched before the call is known to be accepted, but the work buffer.
+#![tactic(auto)]
+
 ghost use Rattle.std.specs.Prelude.{◌≡◌, ◌≤◌, length};
 ghost use Rattle.policy.specs.Fields.{work_size};
 ghost use Rattle.wire.specs.Buffers.{filled};

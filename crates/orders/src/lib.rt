@@ -1,4 +1,6 @@
 // The calls that split an order sheet into its two lists, and join one from them.
+#![tactic(auto)]
+
 ghost use Rattle.std.specs.Prelude.{◌≡◌, ◌++◌, ◌+◌, ◌≤◌, length};
 ghost use Rattle.wire.specs.Buffers.{filled};
 ghost use Rattle.orders.specs.Split.{Split};
@@ -33,7 +35,8 @@ fn fill_both(out: &mut [u8], end: usize, first: &[u8], second: &[u8])
     requires { (length first.now + length second.now ≤ end) × (end ≤ length out.old) }
     ensures { out.new ≡ filled end out.old (first.now ++ second.now) }
 {
-    let middle = bytes::copy(first, out);
+    let middle = first.len();
+    out[..middle].copy_from_slice(first);
     wire::fill(&mut out[middle..], end - middle, second);
 }
 

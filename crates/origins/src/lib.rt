@@ -1,5 +1,7 @@
 // Origin: a pair sheet checked, and a packet traced to the rule of A or B that decides it. On a sheet that passes check that rule is
 // found in A, and its box in its own group, or it is found in B; no other group's boxes are tried.
+#![tactic(auto)]
+
 ghost use Rattle.std.specs.Prelude.{◌≡◌, [], ◌∷◌, ◌+◌, ◌*◌, ◌≤◌, ◌<◌, length, drop};
 ghost use Rattle.std.proofs.lemmas.List.Edits.{sets};
 ghost use Rattle.lists.specs.Lists.{Each};
@@ -23,7 +25,7 @@ pub const ORIGIN_NUMBERS: usize = 3;
 
 // What decides a packet: the rule of A that drops it, the number of the box inside that rule's group and the box's place in the cell
 // list; or the rule of A that it passed, the rule of B that decides, that rule's place in the cell list and its action; or no rule.
-#[derive(Drop)]
+#[derive(Clone, Copy)]
 pub enum Trace {
     Gate {
         rule: usize,

@@ -1,5 +1,7 @@
 // Reads an order sheet on standard input and prints the plan. One byte more than the largest order sheet tells that an input is
 // too long.
+#![tactic(auto)]
+
 use sheet::ORDER_BYTES;
 
 fn main() {

@@ -1,5 +1,7 @@
 // Boxes, rules and packets by value, the refusals, and the answers of the calls. The number of fields, their highest values and
 // their widths stand in the fields' table below; only the calls for C name the fields one by one.
+#![tactic(auto)]
+
 ghost use Rattle.std.specs.Prelude.{◌≡◌, true, false, ◌+◌, ◌-◌, ◌≤◌, ◌<◌, length, get_or, set};
 ghost use Rattle.policy.specs.Fields.{fields, highest, limits};
 ghost use Rattle.policy.specs.Ranges.{range, proper_range, proper, full_range, is_full};
@@ -37,25 +39,25 @@ pub const REFUSAL_BASE: u32 = 65536;
 
 // A range for each field. Boxes and rules lie in memory as C lays them out, so that C can lend a table of them.
 #[repr(C)]
-#[derive(Drop)]
+#[derive(Clone, Copy)]
 pub struct Box {
     pub low: [u32; FIELDS],
     pub high: [u32; FIELDS],
 }
 
 #[repr(C)]
-#[derive(Drop)]
+#[derive(Clone, Copy)]
 pub struct Rule {
     pub bounds: Box,
     pub action: u32,
 }
 
-#[derive(Drop)]
+#[derive(Clone, Copy)]
 pub struct Packet {
     pub values: [u32; FIELDS],
 }
 
-#[derive(Drop)]
+#[derive(Clone, Copy)]
 pub enum Refusal {
     BufferShort,
     CountOutside,
@@ -69,7 +71,7 @@ pub enum Refusal {
 }
 
 // The value that a call answers, mostly a length, or the refusal.
-#[derive(Drop)]
+#[derive(Clone, Copy)]
 pub enum Answer {
     Length(usize),
     Refused(Refusal),

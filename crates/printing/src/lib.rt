@@ -1,5 +1,7 @@
 // The output of the program `plan` for an order sheet: how long both new lists are and the cell's rules, one to a line; or the
 // refusal's number.
+#![tactic(auto)]
+
 ghost use Rattle.std.specs.Prelude.{◌≤◌, length};
 ghost use Rattle.policy.specs.Fields.{count_size};
 

@@ -1,9 +1,10 @@
 // What the planner's calls promise: the statement of each of them, demands 2 and 3 and the theorems over them. There are no
 // functions here: whoever builds on the statements needs none of the crates that do the calls. What an edit is asked to do is
 // declared, since statements name it.
+#![tactic(auto)]
 
 // What an edit does at its place.
-#[derive(Drop)]
+#[derive(Clone, Copy)]
 pub enum Change {
     Insert,
     Delete,
@@ -11,7 +12,7 @@ pub enum Change {
 }
 
 // What an edit is asked to do: which list it changes, A (0) or B (1), at which place, and how.
-#[derive(Drop)]
+#[derive(Clone, Copy)]
 pub struct Request {
     pub which: u32,
     pub place: usize,

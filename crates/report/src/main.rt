@@ -1,5 +1,7 @@
 // Prints the load report of four files: a pair sheet, packets, and earlier and later readings of the cell filter's counters. The packets
 // are read a block at a time, so that memory does not grow with them, and nothing is printed before the last one is counted.
+#![tactic(auto)]
+
 ghost use Rattle.std.specs.Prelude.{◌≡◌, true, ◌≤◌};
 ghost use Rattle.origins.specs.Steps.{Checked};
 ghost use Rattle.rows.specs.Steps.{Tabled};
@@ -31,7 +33,7 @@ const BLOCKS_MOST: usize = PACKETS_MOST * PACKET_BYTES / WORK_BYTES + 1;
 // The bytes of a file of readings for the longest list.
 const READINGS_BYTES: usize = READING_BYTES * HITS_NUMBERS;
 
-#[derive(Drop)]
+#[derive(Clone, Copy)]
 struct Files {
     sheet: i32,
     packets: i32,
@@ -40,14 +42,14 @@ struct Files {
 }
 
 // How many bytes a file gave, or that it could not be read.
-#[derive(Drop)]
+#[derive(Clone, Copy)]
 enum FileRead {
     Bytes(usize),
     Failed,
 }
 
 // The load with a block added, behind which others may come or none does; or why there is none.
-#[derive(Drop)]
+#[derive(Clone, Copy)]
 enum Counted {
     More(Load),
     Last(Load),

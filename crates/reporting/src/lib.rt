@@ -1,4 +1,6 @@
 // The load report over a pair sheet that passes check, packets, and two files of readings of the filter's counters.
+#![tactic(auto)]
+
 ghost use Rattle.std.specs.Prelude.{◌≡◌, true, ◌≤◌, length, get_or};
 ghost use Rattle.std.proofs.lemmas.List.Edits.{sets};
 ghost use Rattle.wire.specs.Buffers.{filled};

@@ -1,4 +1,6 @@
 // The rules of a pair sheet read once into a table of numbers, and packets traced there: for many packets on one sheet that passes check.
+#![tactic(auto)]
+
 ghost use Rattle.std.specs.Prelude.{◌≡◌, ◌+◌, ◌*◌, ◌≤◌, ◌<◌, length, get_or, drop};
 ghost use Rattle.std.proofs.lemmas.List.Edits.{sets};
 ghost use Rattle.lists.specs.Lists.{Each};

@@ -1,4 +1,6 @@
 // Readers of sections, of order sheets, pair sheets and lists.
+#![tactic(auto)]
+
 ghost use Rattle.std.specs.Prelude.{◌≡◌, ◌+◌, ◌≤◌, length, drop};
 ghost use Rattle.lists.specs.Lists.{every};
 ghost use Rattle.policy.specs.Fields.{highest, count_size};
@@ -24,14 +26,14 @@ pub const PAIR_BYTES: usize = ORDER_BYTES
     + BOX_BYTES * (TOTAL_MOST - OWN_MOST);
 
 // A section: how many rules it has and where it ends, or its first refusal.
-#[derive(Drop)]
+#[derive(Clone, Copy)]
 pub enum Section {
     Rules { count: usize, next: usize },
     Refused(Refusal),
 }
 
 // Where the parts of an order sheet lie: the counts of A and B, where B begins and where it ends.
-#[derive(Drop)]
+#[derive(Clone, Copy)]
 pub struct OrderLayout {
     pub gate: usize,
     pub own: usize,
@@ -40,14 +42,14 @@ pub struct OrderLayout {
 }
 
 // Groups: how many boxes they have together and where they end.
-#[derive(Drop)]
+#[derive(Clone, Copy)]
 enum Groups {
     Boxes { count: usize, next: usize },
     Refused(Refusal),
 }
 
 // Where A and B lie, or the first refusal.
-#[derive(Drop)]
+#[derive(Clone, Copy)]
 pub enum OrderParts {
     Parts(OrderLayout),
     Refused(Refusal),
@@ -55,7 +57,7 @@ pub enum OrderParts {
 
 // Where the parts of a pair sheet lie: those of its order sheet, which is its front; how many groups and boxes section C has, and
 // where the groups begin, behind their count, and end.
-#[derive(Drop)]
+#[derive(Clone, Copy)]
 pub struct PairLayout {
     pub order: OrderLayout,
     pub groups: usize,
@@ -65,7 +67,7 @@ pub struct PairLayout {
 }
 
 // Where A, B and C lie, or the first refusal.
-#[derive(Drop)]
+#[derive(Clone, Copy)]
 pub enum PairParts {
     Parts(PairLayout),
     Refused(Refusal),

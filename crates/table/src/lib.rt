@@ -1,5 +1,7 @@
 // Lookup of a packet in a table of rules in memory. `judge_at` and `lookup_number` are lent the slice and are walked by hand;
 // they are thin, and what they decide stands in the functions before them.
+#![tactic(auto)]
+
 ghost use Rattle.std.specs.Prelude.{◌≡◌, [], ◌∷◌, map, ◌<◌, length, get_or};
 ghost use Rattle.policy.specs.Fields.{limits};
 ghost use Rattle.policy.specs.Values.{rule_of, packet_of};

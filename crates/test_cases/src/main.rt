@@ -1,5 +1,7 @@
 // Plays the stream of cases on standard input: each order sheet is moved and its edits are done one after another, and the
 // number that each call answers is printed. The format stands in tests/second/README.md.
+#![tactic(auto)]
+
 ghost use Rattle.std.specs.Prelude.{◌≤◌, ◌<◌, length};
 
 use foldplover::{foldplover_delete, foldplover_insert, foldplover_move, foldplover_replace};
@@ -9,7 +11,7 @@ use printing::{print_number, print_text};
 use sheet::PAIR_BYTES;
 
 // An edit as the stream has it.
-#[derive(Drop)]
+#[derive(Clone, Copy)]
 struct Edit {
     kind: u8,
     which: u8,

@@ -1,4 +1,6 @@
 // Edits drawn by a small generator of pseudo-random numbers, so that a seed gives the same run on every machine.
+#![tactic(auto)]
+
 pub mod order;
 
 ghost use Rattle.std.specs.Prelude.{◌<◌};
@@ -18,7 +20,7 @@ pub const REPLACE: u32 = 2;
 const LONG_BYTES: usize = RECORD_BYTES + 1;
 
 // An edit; its record is the first `size` of the bytes.
-#[derive(Drop)]
+#[derive(Clone, Copy)]
 pub struct Edit {
     pub kind: u32,
     pub which: u32,
@@ -31,7 +33,7 @@ pub struct Edit {
 // and so many deny everything; of 16 others so many allow, and of 64 so many are bad. In these the first `fields` fields are
 // narrowed, one of them always and each other in `narrow` of 8 draws, to a range that begins or ends below `span`; `ends` of 16
 // such ranges reach up to the field's highest value, and as many of the others begin at 0.
-#[derive(Drop)]
+#[derive(Clone, Copy)]
 pub struct Shape {
     pub seed: u32,
     pub edits: u32,

@@ -1,4 +1,6 @@
 // Prints the plan of each order sheet in its folder: the examples, sheets at the limits, and one for every refusal that plan can give.
+#![tactic(auto)]
+
 use sheet::ORDER_BYTES;
 
 fn case(name: &[u8]) {

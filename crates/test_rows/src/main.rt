@@ -1,4 +1,6 @@
 // The rows that document 01 has run by a program: each order sheet is built here, moved, and what the move came to is printed.
+#![tactic(auto)]
+
 ghost use Rattle.std.specs.Prelude.{◌≤◌, ◌<◌, length};
 ghost use Rattle.policy.specs.Fields.{fields};
 

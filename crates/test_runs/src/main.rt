@@ -1,5 +1,7 @@
 // Long runs of edits, each against a fresh move of the lists as the accepted edits left them. The edits are drawn from fixed
 // seeds; after every edit, accepted or refused, the number and all bytes of the pair sheet are compared.
+#![tactic(auto)]
+
 use foldplover::{foldplover_delete, foldplover_insert, foldplover_move, foldplover_replace};
 use groups::WORK_BYTES;
 use policy::{BOX_BYTES, RECORD_BYTES, REFUSAL_BASE};

@@ -1,4 +1,5 @@
 // Numbers, boxes and records in bytes, and the zeroing, filling and copying of lent bytes.
+#![tactic(auto)]
 
 ghost use Rattle.std.specs.Prelude.{◌≡◌, true, ◌+◌, ◌/◌, ◌%◌, ◌≤◌, ◌<◌, length, take, drop};
 ghost use Rattle.std.proofs.lemmas.List.Edits.{sets};
@@ -12,7 +13,7 @@ ghost use Rattle.wire.specs.Buffers.{zeroed, filled};
 use policy::{BOX_BYTES, Box, FIELDS, Rule, WIDTH};
 
 // A range as its bytes have it, which may be empty.
-#[derive(Drop)]
+#[derive(Clone, Copy)]
 struct Range {
     low: u32,
     high: u32,
@@ -257,7 +258,8 @@ pub fn fill(out: &mut [u8], end: usize, content: &[u8])
     requires { (length content.now ≤ end) × (end ≤ length out.old) }
     ensures { out.new ≡ filled end out.old content.now }
 {
-    let n = bytes::copy(content, out);
+    let n = content.len();
+    out[..n].copy_from_slice(content);
     zero(out, n, end);
 }
 
@@ -266,8 +268,9 @@ pub fn put_bytes(out: &mut [u8], at: usize, content: &[u8]) -> usize
     requires { at + length content.now ≤ length out.old }
     ensures { (result ≡ at + length content.now) × (out.new ≡ sets out.old at content.now) }
 {
-    bytes::copy(content, &mut out[at..]);
-    at + content.len()
+    let end = at + content.len();
+    out[at..end].copy_from_slice(content);
+    end
 }
 
 // The bytes from `from` up to `to`, each taken from so many bytes further up.

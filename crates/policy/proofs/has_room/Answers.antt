@@ -4,17 +4,13 @@ use native.Mathlib.Omega.{arith}
 use mathlib.Core.Bool.{false≢true}
 use borrow.Author.Tests.{leb-true, leb-false}
 use Rattle.policy.specs.Fields.{limits}
-use Rattle.policy.proofs.has_room.Statement.{statement}
-use Rattle.policy.proofs.has_room.Tie as tie
+use Rattle.policy.proofs.has_room.Goals as goal
 
-returns : tie.Need-returns
-returns c = (λ e. absurd (false≢true e), λ e. omega (arith, c.if1.true))
+pub returns-then-own-gt-TOTAL_MOST : goal.returns-then-own-gt-TOTAL_MOST
+returns-then-own-gt-TOTAL_MOST c = (λ e. absurd (false≢true e), λ e. omega (arith, c.if-own-gt-TOTAL_MOST.true))
 
-returns-2 : tie.Need-returns-2
-returns-2 c =
-    let a = c.before.args in
+pub returns : goal.returns
+returns c =
+    let a = c.args in
     let left : ℕ = limits.total - a.own in
     (λ e. omega (arith, leb-true a.boxes left e), λ e. omega (arith, leb-false a.boxes left e))
-
-pub has-room-spec : {M : Type 1} → statement M
-has-room-spec = tie.close (tie.spec returns returns-2)

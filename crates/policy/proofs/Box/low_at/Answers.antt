@@ -4,23 +4,13 @@ use mathlib.Core.Path.{◌≡◌, ap, sym, ◌∙◌}
 use Rattle.policy.specs.Ranges.{Range}
 use Rattle.policy.proofs.Values.{ranges_at, ranges-length}
 use Rattle.policy.specs.Fields.{fields}
-use Rattle.policy.proofs.Box.low_at.Statement.{statement}
-use Rattle.policy.proofs.Box.low_at.Tie as tie
+use Rattle.policy.proofs.Box.low_at.Goals as goal
 
-mul-result : tie.Need-overflow-mul-result
-mul-result c = search rules
-
-array-read-result : tie.Need-array-read-result
-array-read-result c = search rules
-
-returns : tie.Need-returns
+pub returns : goal.returns
 returns c =
-    let a = c.before.args in
+    let a = c.args in
     let l : length a.self.low ≡ fields = search rules in
     let h : length a.self.high ≡ fields = search rules in (
       ap (λ (r : Range). r.low) (sym (ranges_at a.self.low a.self.high a.k (cc))),
       ranges-length a.self.low a.self.high (cc) ∙ l,
     )
-
-pub low-at-spec : {M : Type 1} → statement M
-low-at-spec = tie.close (tie.spec mul-result array-read-result returns)

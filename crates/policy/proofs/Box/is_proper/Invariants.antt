@@ -1,0 +1,25 @@
+-- `Box::is_proper` meets its contract: the loop's invariant says that every field passed is proper. Assumes nothing.
+use borrow.Author.Rules.{rules}
+use borrow.Author.Tests.{not-true, not-false}
+use native.Mathlib.Omega.{arith}
+use mathlib.Core.Path.{◌≡◌, ap, sym, ◌∙◌}
+use mathlib.Core.Bool.{true}
+use Prim.Native.Nat.{ℕ, ◌-◌, ◌≤◌, ◌<◌}
+use lib.ListN.{length, get_or}
+use Rattle.policy.specs.Fields.{fields, highest}
+use Rattle.policy.specs.Ranges.{range, Region, proper_range}
+use Rattle.policy.specs.Values.{region_of}
+use Rattle.policy.specs.Steps.{range_at}
+use Rattle.lists.proofs.Both.{fails_at, holds_of_each, above_more}
+use Rattle.policy.proofs.Values.{ranges-length, range_read}
+use Rattle.policy.proofs.Box.is_proper.Given as goal
+
+abbrev pub ProperAt : Region → ℕ → Type 0
+ProperAt b k = proper_range (get_or highest k 0) (range_at b k) ≡ true
+
+abbrev pub invariant-loop-k : goal.invariant-loop-k
+invariant-loop-k l =
+    (l.k ≤ fields) × (length (region_of l.self) ≡ fields) × ((j : ℕ) → l.k ≤ j → j < fields → ProperAt (region_of l.self) j)
+
+abbrev pub decreases-loop-k : goal.decreases-loop-k
+decreases-loop-k l = l.k

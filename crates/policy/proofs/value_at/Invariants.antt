@@ -1,0 +1,18 @@
+-- `value_at` meets its contract: the loop's invariant says whether field k has been passed. Assumes nothing.
+use borrow.Author.Rules.{rules}
+use native.Mathlib.Omega.{arith}
+use mathlib.Core.Path.{◌≡◌, ap, sym, ◌∙◌}
+use mathlib.Core.Bool.{cond}
+use mathlib.Core.Logic.{⊎_elim}
+use Prim.Native.Nat.{ℕ, ◌+◌, ◌-◌, ◌≤◌}
+use lib.Dec.{ltb}
+use lib.ListN.{get_or}
+use Rattle.policy.specs.Fields.{fields}
+use Rattle.policy.proofs.Values.{walk_before, walk_after, walk_past}
+use Rattle.policy.proofs.value_at.Given as goal
+
+abbrev pub invariant-loop-j : goal.invariant-loop-j
+invariant-loop-j l = (l.j ≤ fields) × (l.x ≡ cond (ltb l.k l.j) (get_or l.values l.k 0) 0)
+
+abbrev pub decreases-loop-j : goal.decreases-loop-j
+decreases-loop-j l = fields - l.j
