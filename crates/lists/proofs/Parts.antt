@@ -34,6 +34,10 @@ module _ {A : Type 0} where
       ∙ rw (tail_whole c m (omega arith), sets-eq v (drop m c) 0 (rw length-drop (omega arith)), sets-eq v c m h, z, drop-drop (length v) m c)
       (sym (append_assoc (take m c) v (drop (m + length v) c)))
 
+  -- a part in the middle that a copy fills is stores where it begins
+  pub put_part : (c y v : List A) (m k : ℕ) → k ≡ length v → m + length v ≤ length c → y ≡ v → take m c ++ (y ++ drop k (drop m c)) ≡ sets c m v
+  put_part c y v m k e h w = rw (w, e, sets-eq v c m h, drop-drop (length v) m c) (sym (append_assoc (take m c) v (drop (m + length v) c)))
+
   -- a copy to the part is stores where it begins
   pub copy_put : (c y v : List A) (m : ℕ) → m + length v ≤ length c
       → y ≡ take (length v) v ++ drop (length v) (take (length c - m) (drop m c))

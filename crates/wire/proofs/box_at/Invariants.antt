@@ -1,0 +1,20 @@
+-- `box_at` meets its contract: the loop's invariant says that what is read and what is left of the bytes give the whole box. Assumes nothing.
+use borrow.Author.Rules.{rules}
+use native.Mathlib.Omega.{arith}
+use mathlib.Core.Path.{◌≡◌, refl}
+use mathlib.Core.List.{◌++◌}
+use Prim.Native.Nat.{◌+◌, ◌-◌, ◌≤◌, ◌<◌}
+use lib.ListN.{length, take, drop}
+use Rattle.policy.specs.Fields.{fields, widths, size_of}
+use Rattle.policy.specs.Values.{ranges}
+use Rattle.wire.specs.Records.{ranges_in}
+use Rattle.wire.proofs.Steps.{size_step, width_at, read_next, read_last}
+use Rattle.wire.proofs.box_at.Given as goal
+
+abbrev pub invariant-loop-k : goal.invariant-loop-k
+invariant-loop-k l =
+    (l.k ≤ fields) × (length l.low ≡ fields) × (length l.high ≡ fields) × (l.p + size_of (drop l.k widths) ≤ length l.s)
+    × (ranges (take l.k l.low) (take l.k l.high) ++ ranges_in (drop l.k widths) (drop l.p l.s) ≡ ranges_in widths (drop l.at l.s))
+
+abbrev pub decreases-loop-k : goal.decreases-loop-k
+decreases-loop-k l = fields - l.k

@@ -1,0 +1,6 @@
+-- `put_box` meets its contract: all fields are written. Assumes nothing.
+use borrow.Author.Rules.{rules}
+use Rattle.wire.proofs.put_box.Goals as goal
+
+pub returns : goal.returns
+returns c = c.put_fields.ensures

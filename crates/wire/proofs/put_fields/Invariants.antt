@@ -1,0 +1,21 @@
+-- `put_fields` meets its contract: the loop's invariant says that what is left to store gives the first n fields. Assumes nothing.
+use borrow.Author.Rules.{rules}
+use native.Mathlib.Omega.{arith}
+use mathlib.Core.Path.{◌≡◌, refl, ap}
+use mathlib.Core.Logic.{⊎_elim}
+use Prim.Native.Nat.{◌+◌, ◌-◌, ◌≤◌, ◌<◌}
+use lib.ListN.{length, take, drop}
+use lib.Seq.{sets}
+use Rattle.policy.specs.Fields.{fields, widths, size_of}
+use Rattle.policy.specs.Values.{ranges}
+use Rattle.wire.specs.Records.{ranges_bytes}
+use Rattle.wire.proofs.Steps.{size_step, width_at, fields_next, fields_past, fields_last}
+use Rattle.wire.proofs.put_fields.Given as goal
+
+abbrev pub invariant-loop-k : goal.invariant-loop-k
+invariant-loop-k l =
+    (l.k ≤ fields) × (length l.out ≡ length l.initial.out) × (l.p + size_of (drop l.k widths) ≤ length l.out)
+    × (sets l.out l.p (ranges_bytes (drop l.k (take l.n widths)) (drop l.k (ranges l.low l.high))) ≡ sets l.initial.out l.at (ranges_bytes (take l.n widths) (ranges l.low l.high)))
+
+abbrev pub decreases-loop-k : goal.decreases-loop-k
+decreases-loop-k l = fields - l.k
