@@ -1,0 +1,48 @@
+-- `cut_box` meets its contract: the loop's invariant says what is left of the cut from field k on. Assumes nothing.
+use borrow.Author.Rules.{rules}
+use native.Mathlib.Omega.{arith}
+use mathlib.Core.Path.{◌≡◌, ◌∙◌}
+use mathlib.Core.Logic.{⊎_elim}
+use Prim.Native.Nat.{◌-◌}
+use lib.ListN.{length}
+use Rattle.policy.specs.Fields.{fields}
+use Rattle.policy.specs.Values.{region_of}
+use Rattle.policy.proofs.Values.{ranges-length}
+use Rattle.groups.proofs.Cutting.{Cutting, cutting_first, cutting_at, cutting_cut, cutting_past, cutting_last}
+use Rattle.groups.proofs.cut_box.Goals as goal
+
+pub loop-k-init : goal.loop-k-init
+loop-k-init c =
+    let a = c.args in
+    let l : length a.d.low ≡ fields = search rules in
+    let h : length a.d.high ≡ fields = search rules in
+    let f : length a.a.low ≡ fields = search rules in
+    let u : length a.a.high ≡ fields = search rules in
+    cutting_first a.half a.work.now a.n (region_of a.d) (region_of a.a) (ranges-length a.d.low a.d.high (cc) ∙ l) (ranges-length a.a.low a.a.high (cc) ∙ f) c.requires.capacity_in_bounds.3
+
+pub cut_field-done-requires : goal.cut_field-done-requires
+cut_field-done-requires c =
+    cutting_at c.loop-k.invariant c.loop-k-test.true c.low_at-low.ensures.0 c.high_at-high.ensures.0 c.low_at-from.ensures.0 c.high_at-to.ensures.0 c.args.at c.requires.capacity_in_bounds.0 c.requires.capacity_in_bounds.1 c.requires.capacity_in_bounds.2 c.requires.written
+
+pub cut_field-done-requires-then-to-high : goal.cut_field-done-requires-then-to-high
+cut_field-done-requires-then-to-high c =
+    cutting_at c.loop-k.invariant c.loop-k-test.true c.low_at-low.ensures.0 c.high_at-high.ensures.0 c.low_at-from.ensures.0 c.high_at-to.ensures.0 c.args.at c.requires.capacity_in_bounds.0 c.requires.capacity_in_bounds.1 c.requires.capacity_in_bounds.2 c.requires.written
+
+pub loop-k-preserved : goal.loop-k-preserved
+loop-k-preserved c =
+    let g = c.loop-k.invariant in
+    let t = c.loop-k-test.true in
+    let cut = cutting_cut g t c.low_at-low.ensures.0 c.high_at-high.ensures.0 c.low_at-from.ensures.0 c.high_at-to.ensures.0 in
+    ⊎_elim
+    (λ w. rw (w.5, w.6) (cut _ _ (omega (arith, c.requires.capacity_in_bounds.0)) w.2.ensures))
+    (λ v. ⊎_elim
+    (λ w. rw (w.6, w.7) (cut _ _ (omega (arith, c.requires.capacity_in_bounds.0)) w.3.ensures))
+    (λ w. rw (w.2, w.3) (cutting_past g t (omega (arith, c.requires.capacity_in_bounds.0)) (omega (arith, c.low_at-from.ensures.0, c.low_at-low.ensures.0, w.0.left)) (omega (arith, c.high_at-to.ensures.0, c.high_at-high.ensures.0, w.1.left))))
+    v)
+    c.if-low-from.branch
+
+pub shape_of-work : goal.shape_of-work
+shape_of-work c = c.loop-k.invariant.wide
+
+pub returns : goal.returns
+returns c = cutting_last c.loop-k.invariant (omega arith)

@@ -1,0 +1,40 @@
+-- `take_allows` meets its contract: the loop's invariant says that the pieces and the allows left come to what the start and all
+-- allows come to. Assumes nothing.
+use borrow.Author.Rules.{rules}
+use mathlib.Core.Path.{refl, sym, ◌∙◌}
+use mathlib.Core.Logic.{⊎_elim}
+use Prim.Native.Nat.{ℕ, ◌+◌, ◌-◌, ◌*◌}
+use native.Mathlib.Omega.{arith}
+use Rattle.policy.specs.Fields.{box_size}
+use Rattle.wire.specs.Records.{boxes_in}
+use Rattle.groups.specs.Steps.{capacity}
+use Rattle.groups.proofs.Works.{proper_at, Working, working_first, working_deny, working_over, working_next, working_done}
+use Rattle.groups.proofs.take_allows.Goals as goal
+use Rattle.groups.proofs.take_allows.Goals.{else-is_allow, then-is_allow}
+
+-- Where the second half begins.
+abbrev half : ℕ
+half = capacity * box_size
+
+pub loop-j-init : goal.loop-j-init
+loop-j-init c =
+    working_first half c.args.rules.now c.args.i c.requires.1 c.requires.2
+
+pub take_allow-n-requires : goal.take_allow-n-requires
+take_allow-n-requires c =
+    let s = c.loop-j in record { half_in_bounds = (omega (arith, s.invariant.wide), omega arith, s.invariant.few); standing = (s.invariant.stands, proper_at (c.args.i + 1) c.args.rules.now s.j c.requires.0.2 (omega arith) c.rule_at-rule.ensures) }
+
+pub returns-then-n-gt-PIECES_MOST : goal.returns-then-n-gt-PIECES_MOST
+returns-then-n-gt-PIECES_MOST c =
+    working_over c.loop-j.invariant (omega (arith, c.loop-j-test.true)) c.rule_at-rule.ensures (sym c.is_allow.ensures ∙ c.if-is_allow.true) c.take_allow-n.ensures (omega (arith, c.if-n-gt-PIECES_MOST.true)) refl
+
+pub loop-j-preserved : goal.loop-j-preserved
+loop-j-preserved c =
+    let s = c.loop-j in
+    let t = c.loop-j-test.true in
+    let e = c.rule_at-rule.ensures in
+    let b = sym c.is_allow.ensures in
+    elim c.if-is_allow.branch [ then-is_allow w ↦ rw (w.6, w.7) (working_next s.invariant t e (b ∙ w.if-is_allow.true) w.2.ensures (omega (arith, w.5.left)) (proper_at (c.args.i + 1) c.args.rules.now s.j c.requires.0.2 (omega arith) e) w.2.kept.0) | else-is_allow w ↦ rw (w.1, w.2) (working_deny s.invariant t e (b ∙ w.if-is_allow.false)) ]
+
+pub returns : goal.returns
+returns c = working_done c.loop-j.invariant c.loop-j-test.false refl

@@ -1,0 +1,13 @@
+-- `read_groups` reads group after group: the groups that are left decide. Assumes nothing.
+use borrow.Author.Rules.{rules}
+use native.Mathlib.Omega.{arith}
+use Prim.Native.Nat.{◌-◌, ◌≤◌}
+use Rattle.sheet.specs.Steps.{with_total}
+use Rattle.sheet.proofs.GroupReader.{GroupsLeft, groups_first, groups_stop, groups_next, groups_done}
+use Rattle.sheet.proofs.read_groups.Given as goal
+
+abbrev pub invariant-loop-i : goal.invariant-loop-i
+invariant-loop-i l = (l.i ≤ l.n) × GroupsLeft (with_total l.most) l.n l.own l.s l.i l.total l.at
+
+abbrev pub decreases-loop-i : goal.decreases-loop-i
+decreases-loop-i l = l.n - l.i

@@ -1,0 +1,13 @@
+-- `read_order` is A and B with nothing left behind. Assumes nothing.
+use borrow.Author.Rules.{rules}
+use Rattle.sheet.proofs.OrderReader.{order_refusal, order_over, order_read}
+use Rattle.sheet.proofs.read_order.Goals as goal
+
+pub returns-then-order-s : goal.returns-then-order-s
+returns-then-order-s c = search (rules, order_over)
+
+pub returns-in-Refused : goal.returns-in-Refused
+returns-in-Refused c = search (rules, order_refusal)
+
+pub returns-else-order-s : goal.returns-else-order-s
+returns-else-order-s c = search (rules, order_read)
