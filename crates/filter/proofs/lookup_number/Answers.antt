@@ -5,22 +5,23 @@ use Rattle.policy.specs.Values.{packet_of}
 use Rattle.filter.proofs.Verdicts.{decided_small, decided_number, refused_number}
 use Rattle.filter.proofs.lookup_number.Goals as goal
 
--- The place and the action of the rule that decides are small.
-module _ (c : tie.After-known-told) where
-  small : (c.before.place.given.0.0 < limits.total) × (c.before.place.given.0.1.0 ≤ 1)
-  small =
-      let k = c.before.before.before.lookup in
-      let a = c.before.before.before.before.before.args in
-      decided_small limits.total (packet_of a.p) a.list.now k.result k.ensures _ _ c.before.place.given.1
-
 pub overflow_cast-result : goal.overflow_cast-result
-overflow_cast-result c = let s = small c in omega arith
+overflow_cast-result c = 
+    let k = c.lookup in
+    let s : (c.in-Decided.place < limits.total) × (c.in-Decided.action ≤ 1) = decided_small limits.total (packet_of c.args.p) c.args.list.now k.result k.ensures _ _ c.in-Decided.is in
+     omega arith
 
 pub overflow_mul-result : goal.overflow_mul-result
-overflow_mul-result c = let s = small c in omega arith
+overflow_mul-result c = 
+    let k = c.lookup in
+    let s : (c.in-Decided.place < limits.total) × (c.in-Decided.action ≤ 1) = decided_small limits.total (packet_of c.args.p) c.args.list.now k.result k.ensures _ _ c.in-Decided.is in
+     omega arith
 
 pub overflow_add-result : goal.overflow_add-result
-overflow_add-result c = let s = small c in omega arith
+overflow_add-result c = 
+    let k = c.lookup in
+    let s : (c.in-Decided.place < limits.total) × (c.in-Decided.action ≤ 1) = decided_small limits.total (packet_of c.args.p) c.args.list.now k.result k.ensures _ _ c.in-Decided.is in
+     omega arith
 
 pub returns-in-Decided : goal.returns-in-Decided
 returns-in-Decided c =

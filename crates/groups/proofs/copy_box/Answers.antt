@@ -13,4 +13,4 @@ returns c =
     let a = c.args in
     let k : a.from + box_size - a.from ≡ box_size = omega arith in
     let j : a.to + box_size - a.to ≡ box_size = omega arith in
-    copied a.work.now c.copy.new.1.0 (replicate box_size 0) c.copy2.new.1.0 a.from a.to box_size _ _ (omega arith) (omega arith) k j refl c.copy.ensures.1 c.copy2.ensures.1
+    copied a.work.now _ c.copy_from_slice-2.new.self a.from a.to box_size _ _ (omega arith) (omega arith) k j c.copy_from_slice.ensures.after c.copy_from_slice-2.ensures.after

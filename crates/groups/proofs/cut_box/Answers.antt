@@ -10,6 +10,7 @@ use Rattle.policy.specs.Values.{region_of}
 use Rattle.policy.proofs.Values.{ranges-length}
 use Rattle.groups.proofs.Cutting.{Cutting, cutting_first, cutting_at, cutting_cut, cutting_past, cutting_last}
 use Rattle.groups.proofs.cut_box.Goals as goal
+use Rattle.groups.proofs.cut_box.Goals.{then-low-from, else-low-from+then-to-high, else-low-from+else-to-high}
 
 pub loop-k-init : goal.loop-k-init
 loop-k-init c =
@@ -33,13 +34,11 @@ loop-k-preserved c =
     let g = c.loop-k.invariant in
     let t = c.loop-k-test.true in
     let cut = cutting_cut g t c.low_at-low.ensures.0 c.high_at-high.ensures.0 c.low_at-from.ensures.0 c.high_at-to.ensures.0 in
-    ⊎_elim
-    (λ w. rw (w.5, w.6) (cut _ _ (omega (arith, c.requires.capacity_in_bounds.0)) w.2.ensures))
-    (λ v. ⊎_elim
-    (λ w. rw (w.6, w.7) (cut _ _ (omega (arith, c.requires.capacity_in_bounds.0)) w.3.ensures))
-    (λ w. rw (w.2, w.3) (cutting_past g t (omega (arith, c.requires.capacity_in_bounds.0)) (omega (arith, c.low_at-from.ensures.0, c.low_at-low.ensures.0, w.0.left)) (omega (arith, c.high_at-to.ensures.0, c.high_at-high.ensures.0, w.1.left))))
-    v)
-    c.if-low-from.branch
+    elim c.if-low-from.branch [
+      then-low-from w ↦ rw (w.done-is, w.work-is) (cut _ _ (omega (arith, c.requires.capacity_in_bounds.0)) w.cut_field-done.ensures)
+      | else-low-from+then-to-high w ↦ rw (w.done-is, w.work-is) (cut _ _ (omega (arith, c.requires.capacity_in_bounds.0)) w.cut_field-done-then-to-high.ensures)
+      | else-low-from+else-to-high w ↦ rw (w.done-is, w.work-is) (cutting_past g t (omega (arith, c.requires.capacity_in_bounds.0)) (omega (arith, c.low_at-from.ensures.0, c.low_at-low.ensures.0, w.if-low-from.false)) (omega (arith, c.high_at-to.ensures.0, c.high_at-high.ensures.0, w.if-to-high.false)))
+    ]
 
 pub shape_of-work : goal.shape_of-work
 shape_of-work c = c.loop-k.invariant.wide

@@ -10,7 +10,7 @@ use Rattle.groups.proofs.keep_box.Goals as goal
 
 pub returns-then-m-lt-PIECES_MOST : goal.returns-then-m-lt-PIECES_MOST
 returns-then-m-lt-PIECES_MOST c =
-    stored_in c.args.half c.args.work.now c.copy_box.new.0 c.args.m _ _ (omega arith) refl (c.copy_box.ensures ∙ ap (sets c.args.work.now (c.args.half + box_size * c.args.m)) c.requires.written)
+    stored_in c.args.half c.args.work.now c.copy_box.new.work c.args.m _ _ (omega arith) refl (c.copy_box.ensures ∙ ap (sets c.args.work.now (c.args.half + box_size * c.args.m)) c.requires.written)
 
 pub returns : goal.returns
 returns c =

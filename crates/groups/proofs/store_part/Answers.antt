@@ -16,9 +16,9 @@ returns-then-m-lt-PIECES_MOST c =
     let a = c.args in
     let l : length a.part.low ≡ fields = search rules in
     let h : length a.part.high ≡ fields = search rules in
-    let last = c.put_fields.new.0 in
+    let last = c.put_fields.new.out in
     stored_in a.half a.work.now last a.m _ (region_of a.part) (omega arith) refl
-    (part_stored a.k (region_of a.part) (ranges-length a.part.low a.part.high (cc) ∙ l) a.work.now c.copy_box.new.0 last a.at (a.half + box_size * a.m)
+    (part_stored a.k (region_of a.part) (ranges-length a.part.low a.part.high (cc) ∙ l) a.work.now c.copy_box.new.work last a.at (a.half + box_size * a.m)
     (omega arith) (omega arith) c.requires.later c.copy_box.ensures c.put_fields.ensures)
 
 pub returns : goal.returns

@@ -10,11 +10,8 @@ use Rattle.wire.specs.Records.{boxes_in}
 use Rattle.groups.specs.Steps.{capacity}
 use Rattle.groups.proofs.Works.{proper_at, Working, working_first, working_deny, working_over, working_next, working_done}
 use Rattle.groups.proofs.take_allows.Goals as goal
-use Rattle.groups.proofs.take_allows.Goals.{else-is_allow, then-is_allow}
-
--- Where the second half begins.
-abbrev half : ℕ
-half = capacity * box_size
+use Rattle.groups.proofs.take_allows.Goals.{then-is_allow+else-n-gt-PIECES_MOST, else-is_allow}
+use Rattle.groups.proofs.take_allows.Invariants.{half}
 
 pub loop-j-init : goal.loop-j-init
 loop-j-init c =
@@ -34,7 +31,10 @@ loop-j-preserved c =
     let t = c.loop-j-test.true in
     let e = c.rule_at-rule.ensures in
     let b = sym c.is_allow.ensures in
-    elim c.if-is_allow.branch [ then-is_allow w ↦ rw (w.6, w.7) (working_next s.invariant t e (b ∙ w.if-is_allow.true) w.2.ensures (omega (arith, w.5.left)) (proper_at (c.args.i + 1) c.args.rules.now s.j c.requires.0.2 (omega arith) e) w.2.kept.0) | else-is_allow w ↦ rw (w.1, w.2) (working_deny s.invariant t e (b ∙ w.if-is_allow.false)) ]
+    elim c.if-is_allow.branch [
+      then-is_allow+else-n-gt-PIECES_MOST w ↦ rw (w.n-is, w.work-is) (working_next s.invariant t e (b ∙ w.if-is_allow.true) w.take_allow-n.ensures (omega (arith, w.if-n-gt-PIECES_MOST.false)) (proper_at (c.args.i + 1) c.args.rules.now s.j c.requires.0.2 (omega arith) e) w.take_allow-n.auto.work)
+      | else-is_allow w ↦ rw (w.n-is, w.work-is) (working_deny s.invariant t e (b ∙ w.if-is_allow.false))
+    ]
 
 pub returns : goal.returns
 returns c = working_done c.loop-j.invariant c.loop-j-test.false refl

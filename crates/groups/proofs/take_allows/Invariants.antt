@@ -11,6 +11,10 @@ use Rattle.groups.specs.Steps.{capacity}
 use Rattle.groups.proofs.Works.{proper_at, Working, working_first, working_deny, working_over, working_next, working_done}
 use Rattle.groups.proofs.take_allows.Given as goal
 
+-- Where the second half begins.
+abbrev pub half : ℕ
+half = capacity * box_size
+
 abbrev pub invariant-loop-j : goal.invariant-loop-j
 invariant-loop-j l = Working half (boxes_in l.pieces l.initial.work) l.initial.work l.rules l.i l.work l.n l.j
 
