@@ -6,7 +6,7 @@ use native.Mathlib.Omega.{arith}
 use mir.Val.{Fits}
 use mir.Syntax.{w8}
 use lib.ListN.{length, take, drop, get_or, replicate, length-append, length-drop, drop_of_length-le}
-use lib.Seq.{take_all, take_at, drop_at, drop-drop}
+use lib.Seq.{take_at, drop_at, drop-drop}
 use borrow.Author.Tests.{le-leb, lt-leb}
 use Rattle.policy.specs.Fields.{limits}
 use Rattle.policy.specs.Refusals.{accepted, refused, number_of}
@@ -31,11 +31,11 @@ join_once {r = r} {q = q} u v = (said_once r q (u.answer ∙ sym v.answer), u.sh
 -- The first content copied, what the part behind it became, and the buffer with that part put back.
 pub filled_both :
     (out first second copied part : List ℕ) (m n : ℕ) → m ≡ length first → length first + length second ≤ n → n ≤ length out
-    → copied ≡ take (length first) first ++ drop (length first) out → part ≡ filled (n - m) (take (length copied - m) (drop m copied)) second
+    → copied ≡ first ++ drop (length first) out → part ≡ filled (n - m) (take (length copied - m) (drop m copied)) second
     → take m copied ++ (part ++ drop (length copied - m) (drop m copied)) ≡ filled n out (first ++ second)
 unfolding filled
 filled_both out first second copied part m n e h g u v =
-    let x : copied ≡ first ++ drop m out = u ∙ (rw (take_all (length first) first (omega arith)) (ap (λ (k : ℕ). first ++ drop k out) (sym e))) in
+    let x : copied ≡ first ++ drop m out = u ∙ ap (λ (k : ℕ). first ++ drop k out) (sym e) in
     let t : take m copied ≡ first = ap (take m) x ∙ take_at first (drop m out) m (sym e) in
     let d : drop m copied ≡ drop m out = ap (drop m) x ∙ drop_at first (drop m out) m (sym e) in
     let z : drop (length copied - m) (drop m copied) ≡ [] = drop_of_length-le (drop m copied) {i = length copied - m} (rw length-drop (omega arith)) in

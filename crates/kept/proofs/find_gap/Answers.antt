@@ -10,44 +10,67 @@ use Rattle.sheet.specs.Steps.{box_count}
 use Rattle.kept.proofs.Runs.{part_inside, part_boxes, part_there}
 use Rattle.kept.proofs.find_gap.Goals as goal
 
--- the first groups are there
-front : (c : tie.After-shared-slice-known) → run_size c.before.args.earlier c.before.args.s.now ≤ length c.before.args.s.now
-front c = part_inside c.before.args.earlier c.before.args.gone c.before.args.s.now c.before.requires _ refl
-
--- where they end
-place : (c : tie.After-count-boxes) → count_size * c.before.before.args.earlier + box_size * c.count-boxes.result ≡ run_size c.before.before.args.earlier c.before.before.args.s.now
-place c = ap (λ (n : ℕ). count_size * c.before.before.args.earlier + box_size * n) c.count-boxes.ensures
-
--- the boxes that go, and those before them
-gone : (c : tie.After-count-boxes2) → c.count-boxes2.result + box_count c.before.before.before.before.args.earlier c.before.before.before.before.args.s.now ≡ box_count (c.before.before.before.before.args.earlier + c.before.before.before.before.args.gone) c.before.before.before.before.args.s.now
-gone c = rw c.count-boxes2.ensures (part_boxes c.before.before.before.before.args.earlier c.before.before.before.before.args.gone c.before.before.before.before.args.s.now c.before.before.before.before.requires _ (place c.before.before))
-
 pub count_boxes-front-requires : goal.count_boxes-front-requires
-count_boxes-front-requires c = front c
+count_boxes-front-requires c = part_inside c.args.earlier c.args.gone c.args.s.now c.requires _ refl
 
 pub overflow_mul-at-2 : goal.overflow_mul-at-2
-overflow_mul-at-2 c = omega (arith, front c, place c)
+overflow_mul-at-2 c =
+    let a = c.args in
+    let front : run_size a.earlier a.s.now ≤ length a.s.now = part_inside a.earlier a.gone a.s.now c.requires _ refl in
+    let place : count_size * a.earlier + box_size * c.count_boxes-front.result ≡ run_size a.earlier a.s.now = ap (λ (n : ℕ). count_size * a.earlier + box_size * n) c.count_boxes-front.ensures in
+    omega arith
 
 pub overflow_add-at : goal.overflow_add-at
-overflow_add-at c = omega (arith, front c, place c)
+overflow_add-at c =
+    let a = c.args in
+    let front : run_size a.earlier a.s.now ≤ length a.s.now = part_inside a.earlier a.gone a.s.now c.requires _ refl in
+    let place : count_size * a.earlier + box_size * c.count_boxes-front.result ≡ run_size a.earlier a.s.now = ap (λ (n : ℕ). count_size * a.earlier + box_size * n) c.count_boxes-front.ensures in
+    omega arith
 
 pub slice_bounds-count_boxes-count : goal.slice_bounds-count_boxes-count
-slice_bounds-count_boxes-count c = omega (arith, front c, place c)
+slice_bounds-count_boxes-count c =
+    let a = c.args in
+    let front : run_size a.earlier a.s.now ≤ length a.s.now = part_inside a.earlier a.gone a.s.now c.requires _ refl in
+    let place : count_size * a.earlier + box_size * c.count_boxes-front.result ≡ run_size a.earlier a.s.now = ap (λ (n : ℕ). count_size * a.earlier + box_size * n) c.count_boxes-front.ensures in
+    omega arith
 
 pub slice_bounds-count_boxes-start : goal.slice_bounds-count_boxes-start
-slice_bounds-count_boxes-start c = omega (arith, front c, place c)
+slice_bounds-count_boxes-start c =
+    let a = c.args in
+    let front : run_size a.earlier a.s.now ≤ length a.s.now = part_inside a.earlier a.gone a.s.now c.requires _ refl in
+    let place : count_size * a.earlier + box_size * c.count_boxes-front.result ≡ run_size a.earlier a.s.now = ap (λ (n : ℕ). count_size * a.earlier + box_size * n) c.count_boxes-front.ensures in
+    omega arith
 
 pub count_boxes-boxes-requires : goal.count_boxes-boxes-requires
-count_boxes-boxes-requires c = part_there c.args.earlier c.args.gone c.args.s.now c.requires _ (place c)
+count_boxes-boxes-requires c =
+    let a = c.args in
+    let place : count_size * a.earlier + box_size * c.count_boxes-front.result ≡ run_size a.earlier a.s.now = ap (λ (n : ℕ). count_size * a.earlier + box_size * n) c.count_boxes-front.ensures in
+    part_there a.earlier a.gone a.s.now c.requires _ place
 
 pub overflow_add-result : goal.overflow_add-result
-overflow_add-result c = omega (arith, gone c, place c, c.requires)
+overflow_add-result c =
+    let a = c.args in
+    let place : count_size * a.earlier + box_size * c.count_boxes-front.result ≡ run_size a.earlier a.s.now = ap (λ (n : ℕ). count_size * a.earlier + box_size * n) c.count_boxes-front.ensures in
+    let gone : c.count_boxes-boxes.result + box_count a.earlier a.s.now ≡ box_count (a.earlier + a.gone) a.s.now = rw c.count_boxes-boxes.ensures (part_boxes a.earlier a.gone a.s.now c.requires _ place) in
+    omega (arith, c.requires)
 
 pub overflow_mul-result-2 : goal.overflow_mul-result-2
-overflow_mul-result-2 c = omega (arith, gone c, place c, c.requires)
+overflow_mul-result-2 c =
+    let a = c.args in
+    let place : count_size * a.earlier + box_size * c.count_boxes-front.result ≡ run_size a.earlier a.s.now = ap (λ (n : ℕ). count_size * a.earlier + box_size * n) c.count_boxes-front.ensures in
+    let gone : c.count_boxes-boxes.result + box_count a.earlier a.s.now ≡ box_count (a.earlier + a.gone) a.s.now = rw c.count_boxes-boxes.ensures (part_boxes a.earlier a.gone a.s.now c.requires _ place) in
+    omega (arith, c.requires)
 
 pub overflow_add-result-2 : goal.overflow_add-result-2
-overflow_add-result-2 c = omega (arith, gone c, place c, c.requires)
+overflow_add-result-2 c =
+    let a = c.args in
+    let place : count_size * a.earlier + box_size * c.count_boxes-front.result ≡ run_size a.earlier a.s.now = ap (λ (n : ℕ). count_size * a.earlier + box_size * n) c.count_boxes-front.ensures in
+    let gone : c.count_boxes-boxes.result + box_count a.earlier a.s.now ≡ box_count (a.earlier + a.gone) a.s.now = rw c.count_boxes-boxes.ensures (part_boxes a.earlier a.gone a.s.now c.requires _ place) in
+    omega (arith, c.requires)
 
 pub returns : goal.returns
-returns c = (place c, omega (arith, gone c, place c), omega (arith, gone c))
+returns c =
+    let a = c.args in
+    let place : count_size * a.earlier + box_size * c.count_boxes-front.result ≡ run_size a.earlier a.s.now = ap (λ (n : ℕ). count_size * a.earlier + box_size * n) c.count_boxes-front.ensures in
+    let gone : c.count_boxes-boxes.result + box_count a.earlier a.s.now ≡ box_count (a.earlier + a.gone) a.s.now = rw c.count_boxes-boxes.ensures (part_boxes a.earlier a.gone a.s.now c.requires _ place) in
+    (place, omega arith, omega arith)

@@ -1,0 +1,13 @@
+-- `draft_groups` meets its contract. Assumes nothing.
+use borrow.Author.Rules.{rules}
+use native.Mathlib.Omega.{arith}
+use Prim.Native.Nat.{◌-◌}
+use Rattle.policy.specs.Move.{alone}
+use Rattle.draft.proofs.Turns.{Going, going_first, going_ready, going_count, going_next, going_over, going_done}
+use Rattle.draft.proofs.draft_groups.Given as goal
+
+abbrev pub invariant-loop-i : goal.invariant-loop-i
+invariant-loop-i l = Going alone l.rules l.from l.to l.initial.draft l.boxes l.initial.work l.draft l.work l.i l.count l.end l.sum
+
+abbrev pub decreases-loop-i : goal.decreases-loop-i
+decreases-loop-i l = l.to - l.i
