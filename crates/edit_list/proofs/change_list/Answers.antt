@@ -26,7 +26,7 @@ overflow_add-left c = let p = c.requires in omega (arith, p.1, most_few c.args.r
 pub slice_bounds-splice-end : goal.slice_bounds-splice-end
 slice_bounds-splice-end c =
     let a = c.args in
-    let w = put_long a.request.change a.new.now (sym c.is_whole.ensures ∙ not-false _ c.if-not-is_whole.false) in
+    let w = put_long a.request.change a.new.now (sym c.is_whole.ensures ∙ not-false _ c.if-not-is_whole.false-raw) in
     let e : c.put_by-put.result ≡ put_by a.request.change = c.put_by-put.ensures.0 in
     simp length-take (omega arith)
 
@@ -37,4 +37,4 @@ pub returns : goal.returns
 returns c =
     let a = c.args in
     let t = c.taken_by-taken.ensures in
-    changed_done a.s.now a.count a.request.place a.request.change a.new.now a.out.now t.0 (omega (arith, t.1, c.requires.0)) (omega (arith, c.if-left-place.false)) (sym c.is_whole.ensures ∙ not-false _ c.if-not-is_whole.false) c.put_by-put.ensures.0 c.splice.ensures.0 c.splice.ensures.1
+    changed_done a.s.now a.count a.request.place a.request.change a.new.now a.out.now t.0 (omega (arith, t.1, c.requires.0)) (omega (arith, c.if-left-place.false)) (sym c.is_whole.ensures ∙ not-false _ c.if-not-is_whole.false-raw) c.put_by-put.ensures.0 c.splice.ensures.0 c.splice.ensures.1
