@@ -29,7 +29,7 @@ fn same_bytes(a: &[u8], b: &[u8]) -> bool
         i += 4;
         left -= 4;
     }
-    check::same(&a[i..], &b[i..])
+    a[i..] == b[i..]
 }
 
 // Whether the draft, of so many boxes and ending there, is the sheet's groups: as many boxes, and the same bytes.
