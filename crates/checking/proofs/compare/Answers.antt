@@ -21,8 +21,8 @@ draft_all-requires c =
     let bytes = bytes_all sheet (λ i. omega (arith, c.type_inv.sheet i)) in
     pair_accepted c.read_pair.ensures bytes _ c.in-Parts.is in
     let room : draft_size ≤ length c.args.draft.now =
-    c.pre.0 in
-    draft_ready (read c) _ _ (room c) (c c).requires.1
+    c.requires.0 in
+    draft_ready read _ _ room c.requires.1
 
 pub is_same-requires : goal.is_same-requires
 is_same-requires c =
@@ -32,9 +32,9 @@ is_same-requires c =
     let bytes = bytes_all sheet (λ i. omega (arith, c.type_inv.sheet i)) in
     pair_accepted c.read_pair.ensures bytes _ c.in-Parts.is in
     let room : draft_size ≤ length c.args.draft.now =
-    c.pre.0 in
+    c.requires.0 in
     let x = rw c.in-Groups.is at c.draft_all.ensures in
-    (omega (arith, (read c).laid.groups_end, (read c).laid.whole), λ h. omega (arith, check_long (read c) x (room c) h))
+    (omega (arith, read.laid.groups_end, read.laid.whole), λ h. omega (arith, check_long read x room h))
 
 pub returns-then-not-is_same : goal.returns-then-not-is_same
 returns-then-not-is_same c =
@@ -44,9 +44,9 @@ returns-then-not-is_same c =
     let bytes = bytes_all sheet (λ i. omega (arith, c.type_inv.sheet i)) in
     pair_accepted c.read_pair.ensures bytes _ c.in-Parts.is in
     let room : draft_size ≤ length c.args.draft.now =
-    c.pre.0 in
+    c.requires.0 in
     let x = rw c.in-Groups.is at c.draft_all.ensures in
-    (check_differs (read c) x (room c) c.is_same.ensures (not-true _ c.if-not-is_same.true-raw), x.beyond)
+    (check_differs read x room c.is_same.ensures (not-true _ c.if-not-is_same.true-raw), x.beyond)
 
 pub returns-in-Refused : goal.returns-in-Refused
 returns-in-Refused c = (check_refused (pair_refused c.read_pair.ensures _ c.in-Refused.is), refl)
@@ -69,6 +69,6 @@ returns-else-not-is_same c =
     let bytes = bytes_all sheet (λ i. omega (arith, c.type_inv.sheet i)) in
     pair_accepted c.read_pair.ensures bytes _ c.in-Parts.is in
     let room : draft_size ≤ length c.args.draft.now =
-    c.pre.0 in
+    c.requires.0 in
     let x = rw c.in-Groups.is at c.draft_all.ensures in
-    (check_passes (read c) x (room c) c.is_same.ensures (not-false _ c.if-not-is_same.false-raw), x.beyond)
+    (check_passes read x room c.is_same.ensures (not-false _ c.if-not-is_same.false-raw), x.beyond)
