@@ -6,6 +6,8 @@ use mathlib.Core.List.{List}
 use mathlib.Core.Bool.{false≢true}
 use Prim.Native.Nat.{ℕ, ◌+◌, ◌≤◌}
 use lib.ListN.{length, take, drop}
+use Rattle.std.proofs.lemmas.Slice.Eq.{slice_eq-Decides}
+use Rattle.std.proofs.lemmas.Bool.Decides.{Decides-eqb}
 use Rattle.wire.specs.Numbers.{number_in}
 use Rattle.wire.proofs.Numbers.{bytes_all}
 use Rattle.checking.proofs.Bytes.{same_four, rest_same, same_rest}
@@ -39,4 +41,5 @@ returns c =
     let b = c.args.b.now in
     let x : h.i ≤ length a = omega (arith, h.invariant.0) in
     let y : h.i ≤ length b = omega (arith, h.invariant.0, h.invariant.1) in
-    ((λ f. rest_same a b h.i x y h.invariant.2 (c.same.ensures.0 f)), (λ e. c.same.ensures.1 (same_rest a b h.i x y h.invariant.2 e)))
+    let same = slice_eq-Decides Decides-eqb _ _ _ c.eq.ensures in
+    ((λ f. rest_same a b h.i x y h.invariant.2 (same.0 f)), (λ e. same.1 (same_rest a b h.i x y h.invariant.2 e)))
