@@ -3,12 +3,8 @@ use mathlib.Core.Path.{refl}
 use Rattle.policy.specs.Fields.{highest}
 use Rattle.policy.specs.Ranges.{full_over}
 use Rattle.policy.specs.Values.{ranges}
-use Rattle.listing.proofs.allow_all.Statement.{statement}
-use Rattle.listing.proofs.allow_all.Tie as tie
+use Rattle.listing.proofs.allow_all.Goals as goal
 
-returns : tie.Need-returns
+pub returns : goal.returns
 unfolding ranges highest full_over
 returns c = refl
-
-pub allow-all-spec : {M : Type 1} → statement M
-allow-all-spec = tie.close (tie.spec returns)

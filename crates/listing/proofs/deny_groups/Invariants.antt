@@ -1,0 +1,21 @@
+-- `deny_groups` meets its contract: what is left of the groups leads to all of them. Assumes nothing.
+use borrow.Author.Rules.{rules}
+use native.Mathlib.Omega.{arith}
+use mathlib.Core.Path.{◌≡◌}
+use mathlib.Core.List.{List}
+use Prim.Native.Nat.{ℕ, ◌+◌, ◌*◌, ◌-◌, ◌≤◌, ◌<◌}
+use lib.ListN.{length, drop}
+use Rattle.policy.specs.Fields.{box_size, count_size, record_size}
+use Rattle.wire.proofs.Numbers.{bytes_all}
+use Rattle.listing.specs.Steps.{group_records}
+use Rattle.sheet.specs.Steps.{box_count}
+use Rattle.listing.proofs.Listing.{Leads, leads_first, group_count_lem, groups_next, groups_all}
+use Rattle.listing.proofs.deny_groups.Given as goal
+
+abbrev pub invariant-loop-more : goal.invariant-loop-more
+invariant-loop-more l =
+    (l.start + (count_size * l.more + box_size * box_count l.more (drop l.start l.sheet)) ≤ length l.sheet) × (l.to + record_size * box_count l.more (drop l.start l.sheet) ≤ length l.initial.list)
+    × Leads l.initial.list l.at (group_records l.groups (drop l.from l.sheet)) l.list l.to (group_records l.more (drop l.start l.sheet))
+
+abbrev pub decreases-loop-more : goal.decreases-loop-more
+decreases-loop-more l = l.more
