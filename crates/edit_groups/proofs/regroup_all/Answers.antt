@@ -64,7 +64,7 @@ draft_groups-drafted-requires c =
     order_bytes_lem list c.args.sheet.now old (bytes_all list (λ i. omega (arith, c.type_inv.list i))) (bytes_all c.args.sheet.now (λ i. omega (arith, c.type_inv.sheet i))) in
     let rules : take (length list - count_size) (drop count_size list) ≡ drop count_size list =
     tail_whole list count_size (omega (arith, ready.long)) in
-    draft_ready alone_keeps ready all _ _ _ rules front (search rules)
+    draft_ready alone_keeps ready all _ _ _ rules front (omega arith)
 
 pub overflow_mul-stay-2 : goal.overflow_mul-stay-2
 overflow_mul-stay-2 c =
@@ -113,7 +113,7 @@ settle-requires c =
     let ready : Regrouping alone c.args.sheet.now old list around c.args.work.now =
     c.requires.0 in
     let all : Each Byte (order_with list old c.args.sheet.now) =
-    order_bytes_lem list c.args.sheet.now old (bytes_all list (λ i. omega (arith, c.type_inv.list i))) (bytes_all c.args.sheet.now (λ i. omega (arith, c.type_inv.sheet i))) in
+    order_bytes_lem list c.args.sheet.now old (bytes_all list (λ i. omega (arith, c.type_inv.list i))) (bytes_all c.args.sheet.now (λ i. omega (arith, c.slice_known-1.given i))) in
     let groups : List ℕ =
     groups_at old c.args.sheet.now in
     let front : c.args.front ≡ box_count around.earlier groups =
@@ -127,7 +127,7 @@ settle-requires c =
     let made : List ℕ =
     c.draft_groups-drafted.new.draft in
     let behind : Behind (slots_behind alone around groups (drop count_size list)) (box_count around.earlier groups) c.draft_groups-drafted.result made =
-    draft_behind alone_keeps ready all _ _ _ _ _ _ _ refl rules front c.requires.1 (search rules) (search rules) c.draft_groups-drafted.ensures in
+    draft_behind alone_keeps ready all _ _ _ _ _ _ _ refl rules front c.requires.1 (omega arith) c.draft_groups-drafted.auto.draft c.draft_groups-drafted.ensures in
     let many : Counted (stretch alone around.place around.to (drop count_size list)) c.draft_groups-drafted.result =
     rw rules at c.draft_groups-drafted.ensures.drafting.count in
     settle_ready alone_keeps ready all refl size none _ behind many
@@ -143,7 +143,7 @@ returns c =
     let ready : Regrouping alone c.args.sheet.now old list around c.args.work.now =
     c.requires.0 in
     let all : Each Byte (order_with list old c.args.sheet.now) =
-    order_bytes_lem list c.args.sheet.now old (bytes_all list (λ i. omega (arith, c.type_inv.list i))) (bytes_all c.args.sheet.now (λ i. omega (arith, c.type_inv.sheet i))) in
+    order_bytes_lem list c.args.sheet.now old (bytes_all list (λ i. omega (arith, c.type_inv.list i))) (bytes_all c.args.sheet.now (λ i. omega (arith, c.slice_known-1.given i))) in
     let groups : List ℕ =
     groups_at old c.args.sheet.now in
     let front : c.args.front ≡ box_count around.earlier groups =
@@ -157,7 +157,7 @@ returns c =
     let made : List ℕ =
     c.draft_groups-drafted.new.draft in
     let behind : Behind (slots_behind alone around groups (drop count_size list)) (box_count around.earlier groups) c.draft_groups-drafted.result made =
-    draft_behind alone_keeps ready all _ _ _ _ _ _ _ refl rules front c.requires.1 (search rules) (search rules) c.draft_groups-drafted.ensures in
+    draft_behind alone_keeps ready all _ _ _ _ _ _ _ refl rules front c.requires.1 (omega arith) c.draft_groups-drafted.auto.draft c.draft_groups-drafted.ensures in
     let many : Counted (stretch alone around.place around.to (drop count_size list)) c.draft_groups-drafted.result =
     rw rules at c.draft_groups-drafted.ensures.drafting.count in
     settle_done alone_keeps ready all refl size none _ behind many c.draft_groups-drafted.ensures.beyond c.settle.ensures

@@ -193,7 +193,7 @@ gather-drafted-requires c =
     let ready : Regrouping alone c.args.sheet.now old list around c.args.work.now =
     c.requires.0 in
     let all : Each Byte (order_with list old c.args.sheet.now) =
-    order_bytes_lem list c.args.sheet.now old (bytes_all list (λ i. omega (arith, c.type_inv.list i))) (bytes_all c.args.sheet.now (λ i. omega (arith, c.type_inv.sheet i))) in
+    order_bytes_lem list c.args.sheet.now old (bytes_all list (λ i. omega (arith, c.type_inv.list i))) (bytes_all c.args.sheet.now (λ i. omega (arith, c.slice_known-1.given i))) in
     let rules : take (length list - count_size) (drop count_size list) ≡ drop count_size list =
     tail_whole list count_size (omega (arith, ready.long)) in
     let gap : Gap =
@@ -231,7 +231,7 @@ settle-requires c =
     let ready : Regrouping alone c.args.sheet.now old list around c.args.work.now =
     c.requires.0 in
     let all : Each Byte (order_with list old c.args.sheet.now) =
-    order_bytes_lem list c.args.sheet.now old (bytes_all list (λ i. omega (arith, c.type_inv.list i))) (bytes_all c.args.sheet.now (λ i. omega (arith, c.type_inv.sheet i))) in
+    order_bytes_lem list c.args.sheet.now old (bytes_all list (λ i. omega (arith, c.type_inv.list i))) (bytes_all c.args.sheet.now (λ i. omega (arith, c.slice_known-1.given i))) in
     let groups : List ℕ =
     groups_at old c.args.sheet.now in
     let gone : ℕ =
@@ -265,7 +265,7 @@ returns c =
     let ready : Regrouping alone c.args.sheet.now old list around c.args.work.now =
     c.requires.0 in
     let all : Each Byte (order_with list old c.args.sheet.now) =
-    order_bytes_lem list c.args.sheet.now old (bytes_all list (λ i. omega (arith, c.type_inv.list i))) (bytes_all c.args.sheet.now (λ i. omega (arith, c.type_inv.sheet i))) in
+    order_bytes_lem list c.args.sheet.now old (bytes_all list (λ i. omega (arith, c.type_inv.list i))) (bytes_all c.args.sheet.now (λ i. omega (arith, c.slice_known-1.given i))) in
     let groups : List ℕ =
     groups_at old c.args.sheet.now in
     let gone : ℕ =

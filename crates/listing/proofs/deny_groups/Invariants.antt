@@ -14,8 +14,8 @@ use Rattle.listing.proofs.deny_groups.Given as goal
 
 abbrev pub invariant-loop-more : goal.invariant-loop-more
 invariant-loop-more l =
-    (l.start + (count_size * l.more + box_size * box_count l.more (drop l.start l.sheet)) ≤ length l.sheet) × (l.to + record_size * box_count l.more (drop l.start l.sheet) ≤ length l.initial.list)
-    × Leads l.initial.list l.at (group_records l.groups (drop l.from l.sheet)) l.list l.to (group_records l.more (drop l.start l.sheet))
+    (l.start + (count_size * l.more + box_size * box_count l.more (drop l.start l.sheet)) ≤ length l.sheet) × (l.to + record_size * box_count l.more (drop l.start l.sheet) ≤ length l.initial.out)
+    × Leads l.initial.out l.at (group_records l.groups (drop l.from l.sheet)) l.out l.to (group_records l.more (drop l.start l.sheet))
 
 abbrev pub decreases-loop-more : goal.decreases-loop-more
 decreases-loop-more l = l.more

@@ -1,0 +1,28 @@
+-- `put_groups` meets its contract: the loop's invariant says what is left to store. Assumes nothing.
+use borrow.Author.Rules.{rules}
+use native.Mathlib.Omega.{arith}
+use mathlib.Core.Path.{◌≡◌, refl}
+use mathlib.Core.List.{List}
+use Prim.Native.Nat.{ℕ, ◌+◌, ◌*◌, ◌-◌, ◌≤◌}
+use lib.ListN.{length, drop}
+use lib.Seq.{sets}
+use Rattle.lists.specs.Lists.{Each}
+use Rattle.policy.specs.Fields.{box_size, count_size}
+use Rattle.policy.specs.Rules.{Proper}
+use Rattle.policy.specs.Move.{together}
+use Rattle.wire.specs.Records.{box_in, each_in, each_bytes}
+use Rattle.sheet.specs.Steps.{groups_from, box_count}
+use Rattle.kept.specs.Steps.{run_size}
+use Rattle.kept.proofs.Runs.{boxes_next}
+use Rattle.rows.specs.Steps.{row_size, rows_numbers}
+use Rattle.rows.proofs.Turns.{each_group, group_turn, groups_none}
+use Rattle.rows.proofs.put_groups.Given as goal
+
+abbrev pub invariant-loop-left : goal.invariant-loop-left
+invariant-loop-left l =
+    (l.start + run_size l.left (drop l.start l.sheet) ≤ length l.sheet) × (length l.table ≡ length l.initial.table)
+    × (l.p + row_size * box_count l.left (drop l.start l.sheet) ≤ length l.table) × Each (Each Proper) (groups_from l.left (drop l.start l.sheet))
+    × (sets l.table l.p (rows_numbers (together (groups_from l.left (drop l.start l.sheet)))) ≡ sets l.initial.table l.at (rows_numbers (together (groups_from l.n (drop l.from l.sheet)))))
+
+abbrev pub decreases-loop-left : goal.decreases-loop-left
+decreases-loop-left l = l.left

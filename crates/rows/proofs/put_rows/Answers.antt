@@ -1,0 +1,62 @@
+-- `put_rows` meets its contract: the loop's invariant says what is left to store. Assumes nothing.
+use borrow.Author.Rules.{rules}
+use native.Mathlib.Omega.{arith}
+use mathlib.Core.Path.{◌≡◌, refl, ap, ◌∙◌}
+use mathlib.Core.List.{List}
+use Prim.Native.Nat.{ℕ, ◌+◌, ◌*◌, ◌-◌, ◌≤◌, ◌<◌}
+use lib.ListN.{length, drop}
+use lib.Seq.{sets}
+use Rattle.lists.specs.Lists.{Each}
+use Rattle.policy.specs.Fields.{box_size}
+use Rattle.policy.specs.Ranges.{Region}
+use Rattle.policy.specs.Rules.{Proper}
+use Rattle.wire.specs.Records.{box_in, each_in, each_bytes}
+use Rattle.rows.specs.Steps.{row_size, row_numbers, rows_numbers}
+use Rattle.wire.proofs.Items.{each_turn, size_turn, items_none}
+use Rattle.rows.proofs.Turns.{row_turn}
+use Rattle.rows.proofs.put_rows.Goals as goal
+
+    later-there : a.loop.start + start.args.size + start.args.size * (a.loop.left - 1) ≤ length sheet
+    later-there = omega (arith, size_turn start.args.size box_in sheet a.loop.start a.loop.left some, a.loop.inv.1)
+
+    proper : Proper (box_in (drop a.loop.start sheet)) × Each Proper (each_in start.args.size box_in (a.loop.left - 1) (drop (a.loop.start + start.args.size) sheet))
+    proper = each_turn start.args.size box_in sheet a.loop.start a.loop.left some Proper a.loop.inv.4
+
+pub loop-left-init : goal.loop-left-init
+loop-left-init c =
+    let h = c.requires in
+    (h.0, h.1, refl, h.2, h.3, refl)
+
+pub box_at-requires : goal.box_at-requires
+box_at-requires c =
+    omega (arith, there c c.loop-left-test.true, c.loop-left.invariant.0)
+
+pub put_row-requires : goal.put_row-requires
+put_row-requires c =
+    (omega (arith, c.loop-left.invariant.3, c.loop-left-test.true), rw c.box_at.ensures (proper c c.loop-left-test.true).0)
+
+pub overflow_add-start : goal.overflow_add-start
+overflow_add-start c =
+    let h = there c c.loop-left-test.true in
+    search rules
+
+pub loop-left-preserved : goal.loop-left-preserved
+loop-left-preserved c =
+    let sheet : List ℕ =
+    c.args.sheet.now in
+    let some = c.loop-left-test.true in (
+      c.loop-left.invariant.0,
+      later-there c some,
+      search rules,
+      omega (arith, c.loop-left.invariant.3),
+      (proper c some).1,
+      row_turn c.loop-left.table c.loop-left.p _ sheet c.loop-left.start c.loop-left.left some _ c.args.size (proper c some).0 c.loop-left.invariant.5
+          (c.put_row.ensures ∙ ap (λ (b : Region). sets c.loop-left.table c.loop-left.p (row_numbers b)) c.box_at.ensures),
+    )
+
+pub returns : goal.returns
+unfolding each_bytes
+returns c =
+    let sheet : List ℕ =
+    c.args.sheet.now in
+    rw (items_none c.args.size box_in (drop c.loop-left.start sheet) c.loop-left.left (omega (arith, c.loop-left-test.false))) at c.loop-left.invariant.5
