@@ -26,7 +26,7 @@ deny_boxes-requires c =
     let counted : box_count c.loop-more.more (drop c.loop-more.start sheet) ≡ n + box_count (c.loop-more.more - 1) (drop (c.loop-more.start + count_size + box_size * n) sheet) =
     group_count_lem sheet c.loop-more.start {left = c.loop-more.more} c.count_at-n.ensures.0 some in
     let z = counted in
-    (omega arith, omega (arith, c.loop-more.inv.2.long))
+    (omega arith, omega (arith, c.loop-more.invariant.2.long))
 
 pub overflow_add-start-in-loop-more : goal.overflow_add-start-in-loop-more
 overflow_add-start-in-loop-more c =
@@ -51,7 +51,7 @@ overflow_add-to c =
     let counted : box_count c.loop-more.more (drop c.loop-more.start sheet) ≡ n + box_count (c.loop-more.more - 1) (drop (c.loop-more.start + count_size + box_size * n) sheet) =
     group_count_lem sheet c.loop-more.start {left = c.loop-more.more} c.count_at-n.ensures.0 some in
     let z = counted in
-    omega (arith, c.loop-more.inv.2.long)
+    omega (arith, c.loop-more.invariant.2.long)
 
 pub loop-more-preserved : goal.loop-more-preserved
 loop-more-preserved c =
@@ -66,7 +66,7 @@ loop-more-preserved c =
     let z = counted in
     let h = c.loop-more in
     let all = bytes_all sheet (λ i. omega (arith, c.type_inv.sheet i)) in
-    (omega arith, omega arith, groups_next sheet h.start c.count_at-n.ensures.0 some all (omega arith) h.inv.2 c.deny_boxes.ensures)
+    (omega arith, omega arith, groups_next sheet h.start c.count_at-n.ensures.0 some all (omega arith) h.invariant.2 c.deny_boxes.ensures)
 
 pub returns : goal.returns
 returns c = let h = c.loop-more in groups_all h.more _ (omega arith) h.invariant.2

@@ -15,9 +15,6 @@ use Rattle.wire.proofs.Items.{items_turn, each_turn, items_none}
 use Rattle.rows.proofs.Turns.{turn_has, turn_misses}
 use Rattle.rows.proofs.first_row.Goals as goal
 
-    number : box_number packet (rows_in start.args.n (drop start.args.at table)) ≡ start.args.n - a.loop.left + box_number packet (row ∷ later)
-    number = a.loop.inv.3 ∙ ap (λ (l : List Region). start.args.n - a.loop.left + box_number packet l) (items_turn row_size row_in table a.loop.start a.loop.left some)
-
 pub loop-left-init : goal.loop-left-init
 loop-left-init c =
     let a = c.args in
@@ -25,13 +22,24 @@ loop-left-init c =
     (omega arith, c.requires.0, c.requires.1, rw z (omega arith))
 
 pub row_has-requires : goal.row_has-requires
-row_has-requires c = (omega (arith, c.loop-left.invariant.1, c.loop-left-test.true), (proper c c.loop-left-test.true).0)
+row_has-requires c =
+    let some = c.loop-left-test.true in
+    let table : List ℕ =
+    c.args.table.now in
+    let row : Region =
+    row_in (drop c.loop-left.start table) in
+    let later : List Region =
+    rows_in (c.loop-left.left - 1) (drop (c.loop-left.start + row_size) table) in
+    let proper : Proper row × Each Proper later =
+    each_turn row_size row_in table c.loop-left.start c.loop-left.left some Proper c.loop-left.invariant.2 in
+    (omega (arith, c.loop-left.invariant.1, c.loop-left-test.true), proper.0)
 
 pub overflow_sub-result : goal.overflow_sub-result
 overflow_sub-result c = c.loop-left.invariant.0
 
 pub returns-then-row_has : goal.returns-then-row_has
 returns-then-row_has c =
+    let some = c.loop-left-test.true in
     let packet : Packet =
     packet_of c.args.p in
     let table : List ℕ =
@@ -40,12 +48,14 @@ returns-then-row_has c =
     row_in (drop c.loop-left.start table) in
     let later : List Region =
     rows_in (c.loop-left.left - 1) (drop (c.loop-left.start + row_size) table) in
-    let some = c.loop-left-test.true in
-    turn_has packet _ c.args.n c.loop-left.left row later (number c some)
+    let number : box_number packet (rows_in c.args.n (drop c.args.at table)) ≡ c.args.n - c.loop-left.left + box_number packet (row ∷ later) =
+    c.loop-left.invariant.3 ∙ ap (λ (l : List Region). c.args.n - c.loop-left.left + box_number packet l) (items_turn row_size row_in table c.loop-left.start c.loop-left.left some) in
+    turn_has packet _ c.args.n c.loop-left.left row later number
     (sym c.row_has.ensures ∙ c.if-row_has.true)
 
 pub loop-left-preserved : goal.loop-left-preserved
 loop-left-preserved c =
+    let some = c.loop-left-test.true in
     let packet : Packet =
     packet_of c.args.p in
     let table : List ℕ =
@@ -54,11 +64,15 @@ loop-left-preserved c =
     row_in (drop c.loop-left.start table) in
     let later : List Region =
     rows_in (c.loop-left.left - 1) (drop (c.loop-left.start + row_size) table) in
-    let some = c.loop-left-test.true in (
+    let proper : Proper row × Each Proper later =
+    each_turn row_size row_in table c.loop-left.start c.loop-left.left some Proper c.loop-left.invariant.2 in
+    let number : box_number packet (rows_in c.args.n (drop c.args.at table)) ≡ c.args.n - c.loop-left.left + box_number packet (row ∷ later) =
+    c.loop-left.invariant.3 ∙ ap (λ (l : List Region). c.args.n - c.loop-left.left + box_number packet l) (items_turn row_size row_in table c.loop-left.start c.loop-left.left some) in
+    (
       omega (arith, c.loop-left.invariant.0),
       omega (arith, c.loop-left.invariant.1),
-      (proper c some).1,
-      turn_misses packet _ c.args.n c.loop-left.left row later (number c some)
+      proper.1,
+      turn_misses packet _ c.args.n c.loop-left.left row later number
           (sym c.row_has.ensures ∙ c.if-row_has.false) c.loop-left.invariant.0 some,
     )
 

@@ -37,7 +37,7 @@ overflow_add-start c =
     let counts : box_count c.loop-left.left (drop c.loop-left.start sheet) ≡ count + box_count (c.loop-left.left - 1) (drop next sheet) =
     boxes_next c.loop-left.left sheet c.loop-left.start count c.loop-left-test.true c.count_at-count.ensures.0 in
     let there : next + run_size (c.loop-left.left - 1) (drop next sheet) ≤ length sheet =
-    omega (arith, counts, c.loop-left.inv.0, c.loop-left-test.true) in
+    omega (arith, counts, c.loop-left.invariant.0, c.loop-left-test.true) in
     let h = there in search rules
 
 pub put_rows-requires : goal.put_rows-requires
@@ -51,11 +51,11 @@ put_rows-requires c =
     let counts : box_count c.loop-left.left (drop c.loop-left.start sheet) ≡ count + box_count (c.loop-left.left - 1) (drop next sheet) =
     boxes_next c.loop-left.left sheet c.loop-left.start count c.loop-left-test.true c.count_at-count.ensures.0 in
     let there : next + run_size (c.loop-left.left - 1) (drop next sheet) ≤ length sheet =
-    omega (arith, counts, c.loop-left.inv.0, c.loop-left-test.true) in
+    omega (arith, counts, c.loop-left.invariant.0, c.loop-left-test.true) in
     let room : c.loop-left.p + row_size * count + row_size * box_count (c.loop-left.left - 1) (drop next sheet) ≤ length c.loop-left.table =
-    omega (arith, counts, c.loop-left.inv.2) in
+    omega (arith, counts, c.loop-left.invariant.2) in
     let proper : Each Proper (each_in box_size box_in count (drop (c.loop-left.start + count_size) sheet)) × Each (Each Proper) (groups_from (c.loop-left.left - 1) (drop next sheet)) =
-    each_group sheet c.loop-left.start c.loop-left.left c.loop-left-test.true count c.count_at-count.ensures.0 (Each Proper) c.loop-left.inv.3 in
+    each_group sheet c.loop-left.start c.loop-left.left c.loop-left-test.true count c.count_at-count.ensures.0 (Each Proper) c.loop-left.invariant.3 in
     (omega arith, omega (arith, there), omega (arith, room), proper.0)
 
 pub overflow_mul-p : goal.overflow_mul-p
@@ -69,7 +69,7 @@ overflow_mul-p c =
     let counts : box_count c.loop-left.left (drop c.loop-left.start sheet) ≡ count + box_count (c.loop-left.left - 1) (drop next sheet) =
     boxes_next c.loop-left.left sheet c.loop-left.start count c.loop-left-test.true c.count_at-count.ensures.0 in
     let room : c.loop-left.p + row_size * count + row_size * box_count (c.loop-left.left - 1) (drop next sheet) ≤ length c.loop-left.table =
-    omega (arith, counts, c.loop-left.inv.2) in
+    omega (arith, counts, c.loop-left.invariant.2) in
     let h = room in search rules
 
 pub overflow_add-p : goal.overflow_add-p
@@ -83,7 +83,7 @@ overflow_add-p c =
     let counts : box_count c.loop-left.left (drop c.loop-left.start sheet) ≡ count + box_count (c.loop-left.left - 1) (drop next sheet) =
     boxes_next c.loop-left.left sheet c.loop-left.start count c.loop-left-test.true c.count_at-count.ensures.0 in
     let room : c.loop-left.p + row_size * count + row_size * box_count (c.loop-left.left - 1) (drop next sheet) ≤ length c.loop-left.table =
-    omega (arith, counts, c.loop-left.inv.2) in
+    omega (arith, counts, c.loop-left.invariant.2) in
     let h = room in search rules
 
 pub overflow_add-start-in-loop-left : goal.overflow_add-start-in-loop-left
@@ -97,7 +97,7 @@ overflow_add-start-in-loop-left c =
     let counts : box_count c.loop-left.left (drop c.loop-left.start sheet) ≡ count + box_count (c.loop-left.left - 1) (drop next sheet) =
     boxes_next c.loop-left.left sheet c.loop-left.start count c.loop-left-test.true c.count_at-count.ensures.0 in
     let there : next + run_size (c.loop-left.left - 1) (drop next sheet) ≤ length sheet =
-    omega (arith, counts, c.loop-left.inv.0, c.loop-left-test.true) in
+    omega (arith, counts, c.loop-left.invariant.0, c.loop-left-test.true) in
     let h = there in search rules
 
 pub overflow_mul-start : goal.overflow_mul-start
@@ -111,7 +111,7 @@ overflow_mul-start c =
     let counts : box_count c.loop-left.left (drop c.loop-left.start sheet) ≡ count + box_count (c.loop-left.left - 1) (drop next sheet) =
     boxes_next c.loop-left.left sheet c.loop-left.start count c.loop-left-test.true c.count_at-count.ensures.0 in
     let there : next + run_size (c.loop-left.left - 1) (drop next sheet) ≤ length sheet =
-    omega (arith, counts, c.loop-left.inv.0, c.loop-left-test.true) in
+    omega (arith, counts, c.loop-left.invariant.0, c.loop-left-test.true) in
     let h = there in search rules
 
 pub overflow_add-start-in-loop-left-2 : goal.overflow_add-start-in-loop-left-2
@@ -125,7 +125,7 @@ overflow_add-start-in-loop-left-2 c =
     let counts : box_count c.loop-left.left (drop c.loop-left.start sheet) ≡ count + box_count (c.loop-left.left - 1) (drop next sheet) =
     boxes_next c.loop-left.left sheet c.loop-left.start count c.loop-left-test.true c.count_at-count.ensures.0 in
     let there : next + run_size (c.loop-left.left - 1) (drop next sheet) ≤ length sheet =
-    omega (arith, counts, c.loop-left.inv.0, c.loop-left-test.true) in
+    omega (arith, counts, c.loop-left.invariant.0, c.loop-left-test.true) in
     let h = there in search rules
 
 pub loop-left-preserved : goal.loop-left-preserved
@@ -139,16 +139,16 @@ loop-left-preserved c =
     let counts : box_count c.loop-left.left (drop c.loop-left.start sheet) ≡ count + box_count (c.loop-left.left - 1) (drop next sheet) =
     boxes_next c.loop-left.left sheet c.loop-left.start count c.loop-left-test.true c.count_at-count.ensures.0 in
     let there : next + run_size (c.loop-left.left - 1) (drop next sheet) ≤ length sheet =
-    omega (arith, counts, c.loop-left.inv.0, c.loop-left-test.true) in
+    omega (arith, counts, c.loop-left.invariant.0, c.loop-left-test.true) in
     let room : c.loop-left.p + row_size * count + row_size * box_count (c.loop-left.left - 1) (drop next sheet) ≤ length c.loop-left.table =
-    omega (arith, counts, c.loop-left.inv.2) in
+    omega (arith, counts, c.loop-left.invariant.2) in
     let proper : Each Proper (each_in box_size box_in count (drop (c.loop-left.start + count_size) sheet)) × Each (Each Proper) (groups_from (c.loop-left.left - 1) (drop next sheet)) =
-    each_group sheet c.loop-left.start c.loop-left.left c.loop-left-test.true count c.count_at-count.ensures.0 (Each Proper) c.loop-left.inv.3 in (
+    each_group sheet c.loop-left.start c.loop-left.left c.loop-left-test.true count c.count_at-count.ensures.0 (Each Proper) c.loop-left.invariant.3 in (
       there,
       search rules,
       omega (arith, room),
       proper.1,
-      group_turn c.loop-left.table c.loop-left.p _ sheet c.loop-left.start c.loop-left.left c.loop-left-test.true _ count c.count_at-count.ensures.0 proper.0 c.loop-left.inv.4 c.put_rows.ensures,
+      group_turn c.loop-left.table c.loop-left.p _ sheet c.loop-left.start c.loop-left.left c.loop-left-test.true _ count c.count_at-count.ensures.0 proper.0 c.loop-left.invariant.4 c.put_rows.ensures,
     )
 
 pub returns : goal.returns

@@ -16,12 +16,6 @@ use Rattle.wire.proofs.Items.{each_turn, size_turn, items_none}
 use Rattle.rows.proofs.Turns.{row_turn}
 use Rattle.rows.proofs.put_rows.Goals as goal
 
-    later-there : a.loop.start + start.args.size + start.args.size * (a.loop.left - 1) ≤ length sheet
-    later-there = omega (arith, size_turn start.args.size box_in sheet a.loop.start a.loop.left some, a.loop.inv.1)
-
-    proper : Proper (box_in (drop a.loop.start sheet)) × Each Proper (each_in start.args.size box_in (a.loop.left - 1) (drop (a.loop.start + start.args.size) sheet))
-    proper = each_turn start.args.size box_in sheet a.loop.start a.loop.left some Proper a.loop.inv.4
-
 pub loop-left-init : goal.loop-left-init
 loop-left-init c =
     let h = c.requires in
@@ -29,28 +23,48 @@ loop-left-init c =
 
 pub box_at-requires : goal.box_at-requires
 box_at-requires c =
-    omega (arith, there c c.loop-left-test.true, c.loop-left.invariant.0)
+    let some = c.loop-left-test.true in
+    let sheet : List ℕ =
+    c.args.sheet.now in
+    let there : c.loop-left.start + c.args.size ≤ length sheet =
+    omega (arith, size_turn c.args.size box_in sheet c.loop-left.start c.loop-left.left some, c.loop-left.invariant.1) in
+    omega (arith, there, c.loop-left.invariant.0)
 
 pub put_row-requires : goal.put_row-requires
 put_row-requires c =
-    (omega (arith, c.loop-left.invariant.3, c.loop-left-test.true), rw c.box_at.ensures (proper c c.loop-left-test.true).0)
+    let some = c.loop-left-test.true in
+    let sheet : List ℕ =
+    c.args.sheet.now in
+    let proper : Proper (box_in (drop c.loop-left.start sheet)) × Each Proper (each_in c.args.size box_in (c.loop-left.left - 1) (drop (c.loop-left.start + c.args.size) sheet)) =
+    each_turn c.args.size box_in sheet c.loop-left.start c.loop-left.left some Proper c.loop-left.invariant.4 in
+    (omega (arith, c.loop-left.invariant.3, c.loop-left-test.true), rw c.box_at.ensures proper.0)
 
 pub overflow_add-start : goal.overflow_add-start
 overflow_add-start c =
-    let h = there c c.loop-left-test.true in
+    let some = c.loop-left-test.true in
+    let sheet : List ℕ =
+    c.args.sheet.now in
+    let there : c.loop-left.start + c.args.size ≤ length sheet =
+    omega (arith, size_turn c.args.size box_in sheet c.loop-left.start c.loop-left.left some, c.loop-left.invariant.1) in
+    let h = there in
     search rules
 
 pub loop-left-preserved : goal.loop-left-preserved
 loop-left-preserved c =
+    let some = c.loop-left-test.true in
     let sheet : List ℕ =
     c.args.sheet.now in
-    let some = c.loop-left-test.true in (
+    let later-there : c.loop-left.start + c.args.size + c.args.size * (c.loop-left.left - 1) ≤ length sheet =
+    omega (arith, size_turn c.args.size box_in sheet c.loop-left.start c.loop-left.left some, c.loop-left.invariant.1) in
+    let proper : Proper (box_in (drop c.loop-left.start sheet)) × Each Proper (each_in c.args.size box_in (c.loop-left.left - 1) (drop (c.loop-left.start + c.args.size) sheet)) =
+    each_turn c.args.size box_in sheet c.loop-left.start c.loop-left.left some Proper c.loop-left.invariant.4 in
+    (
       c.loop-left.invariant.0,
-      later-there c some,
+      later-there,
       search rules,
       omega (arith, c.loop-left.invariant.3),
-      (proper c some).1,
-      row_turn c.loop-left.table c.loop-left.p _ sheet c.loop-left.start c.loop-left.left some _ c.args.size (proper c some).0 c.loop-left.invariant.5
+      proper.1,
+      row_turn c.loop-left.table c.loop-left.p _ sheet c.loop-left.start c.loop-left.left some _ c.args.size proper.0 c.loop-left.invariant.5
           (c.put_row.ensures ∙ ap (λ (b : Region). sets c.loop-left.table c.loop-left.p (row_numbers b)) c.box_at.ensures),
     )
 

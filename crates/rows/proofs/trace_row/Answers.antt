@@ -118,7 +118,7 @@ trace_own-requires c =
     c.first_row-rule.ensures ∙ ap (box_number packet) ((gate_stretch checked c.requires.1).rows ∙ gate_boxes checked) in
     let decided : first packet (pair_at layout sheet).order.gate ≡ found rule (rule_of c.rule_at-record.result).action =
     gate_decides checked packet rule number c.if-rule-count.false (rule_of c.rule_at-record.result) c.rule_at-record.ensures in
-    (checked c, (c c).pre.1, gate_allows (checked c) (packet c) (rule c) (rule_of c.rule_at-record.result) decided c.is_allow.ensures c.if-is_allow.true)
+    (checked, c.requires.1, gate_allows checked packet rule (rule_of c.rule_at-record.result) decided c.is_allow.ensures c.if-is_allow.true)
 
 pub trace_gate-requires : goal.trace_gate-requires
 trace_gate-requires c =
@@ -136,4 +136,4 @@ trace_gate-requires c =
     c.first_row-rule.ensures ∙ ap (box_number packet) ((gate_stretch checked c.requires.1).rows ∙ gate_boxes checked) in
     let decided : first packet (pair_at layout sheet).order.gate ≡ found rule (rule_of c.rule_at-record.result).action =
     gate_decides checked packet rule number c.if-rule-count.false (rule_of c.rule_at-record.result) c.rule_at-record.ensures in
-    (checked c, (c c).pre.1, gate_drops (checked c) (packet c) (rule c) (rule_of c.rule_at-record.result) decided c.is_allow.ensures c.if-is_allow.false)
+    (checked, c.requires.1, gate_drops checked packet rule (rule_of c.rule_at-record.result) decided c.is_allow.ensures c.if-is_allow.false)
