@@ -19,7 +19,7 @@ returns-then-work-lt-WORK_BYTES c = let a = c.args in call_short pair_bytes pair
 
 pub returns : goal.returns
 returns c =
-    let z : tie.After-zero = c in
-    let a = z.before.before.before.before.before.before.before.before.before.before.before.before.before.before.before.args in
-    call_done pair_bytes pair_size _ (edited_of limits (take a.used a.sheet.now) (asked a.request a.new.now)) a.sheet.now a.work.now (edit_lent_lem a.sheet.now a.used a.work.now z.before.before.before.before.before.before.before.before.before.before.before.if1.false z.before.before.before.before.before.before.before.before.before.before.if2.false z.before.before.before.before.before.before.before.before.before.if3.false)
-    z.before.before.before.before.before.before.revise.ensures z.zero.ensures
+    let a = c.args in
+    call_done pair_bytes pair_size _ (edited_of limits (take a.used a.sheet.now) (asked a.request a.new.now)) a.sheet.now a.work.now
+    (edit_lent_lem a.sheet.now a.used a.work.now c.if-sheet-lt-PAIR_BYTES.false c.if-sheet-used.false c.if-work-lt-WORK_BYTES.false)
+    c.revise-answer.ensures c.zero.ensures

@@ -55,9 +55,7 @@ returns-then-request-eq0 c =
     pair_accepted c.read_pair.ensures (bytes_take used sheet (bytes_all sheet (λ i. omega (arith, c.slice_known-1.given i)))) old c.in-Parts.is in
     let ends : old.end ≡ used =
     read.laid.whole ∙ length-take-le used sheet c.requires.1 in
-    let stated : (a : Asked) {w w' sheet' : List ℕ} {x : Answer} → Revised sheet old.end a w x sheet' w' → Revised sheet used a w x sheet' w' =
-    λ a' {w} ' {w'} ' {sheet'} ' {x} ' y'. subst (λ (i : ℕ). Revised sheet i a' w x sheet' w') ends y' in
-    stated (asked c.args.request c.args.new.now) c.revise_gate.ensures
+    subst (λ (i : ℕ). Revised sheet i (asked c.args.request c.args.new.now) c.args.work.now c.revise_gate.result c.revise_gate.new.sheet c.revise_gate.new.work) ends c.revise_gate.ensures
 
 pub revise_own-requires : goal.revise_own-requires
 revise_own-requires c =
@@ -92,9 +90,7 @@ returns-then-request-eq1 c =
     pair_accepted c.read_pair.ensures (bytes_take used sheet (bytes_all sheet (λ i. omega (arith, c.slice_known-1.given i)))) old c.in-Parts.is in
     let ends : old.end ≡ used =
     read.laid.whole ∙ length-take-le used sheet c.requires.1 in
-    let stated : (a : Asked) {w w' sheet' : List ℕ} {x : Answer} → Revised sheet old.end a w x sheet' w' → Revised sheet used a w x sheet' w' =
-    λ a' {w} ' {w'} ' {sheet'} ' {x} ' y'. subst (λ (i : ℕ). Revised sheet i a' w x sheet' w') ends y' in
-    stated (asked c.args.request c.args.new.now) c.revise_own.ensures
+    subst (λ (i : ℕ). Revised sheet i (asked c.args.request c.args.new.now) c.args.work.now c.revise_own.result c.revise_own.new.sheet c.revise_own.new.work) ends c.revise_own.ensures
 
 pub returns-in-Refused : goal.returns-in-Refused
 returns-in-Refused c =

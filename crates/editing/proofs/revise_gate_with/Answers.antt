@@ -228,7 +228,7 @@ find_around-around-requires c =
     rw (c.in-Length.is, gate_bytes_lem sheet read inside) at c.change_list.ensures in
     let accepted : ListAccepted limits.gate (take end made) c.in-Rules.count c.in-Rules.next =
     list_accepted c.read_list.ensures (bytes_take end made (bytes_all made (λ i. omega (arith, c.slice_known-4-1.given i)))) _ _ c.in-Rules.is in
-    gate_around (sheet c) (read c) (inside c) (place c) (change c) (record-bytes c) (new c) changed c.requires.2 accepted
+    gate_around sheet read inside place change record-bytes new changed c.requires.2 accepted
 
 pub slice_bounds-regroup-end : goal.slice_bounds-regroup-end
 slice_bounds-regroup-end c =
@@ -318,7 +318,7 @@ regroup-requires c =
     rw (c.in-Length.is, gate_bytes_lem sheet read inside) at c.change_list.ensures in
     let accepted : ListAccepted limits.gate (take end made) c.in-Rules.count c.in-Rules.next =
     list_accepted c.read_list.ensures (bytes_take end made (bytes_all made (λ i. omega (arith, c.slice_known-4-1.given i)))) _ _ c.in-Rules.is in
-    gate_regrouping (sheet c) (read c) (inside c) (place c) (change c) (record-bytes c) (new c) changed c.requires.2 accepted _ c.find_around-around.ensures (ready c).sheet_room (ready c).work_room
+    gate_regrouping sheet read inside place change record-bytes new changed c.requires.2 accepted _ c.find_around-around.ensures ready.sheet_room ready.work_room
 
 pub returns-in-Refused : goal.returns-in-Refused
 returns-in-Refused c =
@@ -370,9 +370,9 @@ returns-in-Refused-read_list c =
     c.change_list.new.out in
     let changed : ListChanged (changed_bytes (list_bytes (rules_of old.order.gate (take old.end sheet))) old.order.gate place change record-bytes) c.args.out.now (Length end) made =
     rw (c.in-Length.is, gate_bytes_lem sheet read inside) at c.change_list.ensures in
-    at_which (sheet c) (old c).end c.args.request (record-bytes c) 0 c.requires.1
-    (refuses pair_bytes pair_size _ (sheet c) c.args.work.now c.args.work.now _
-    (gate_refuses (sheet c) (read c) (inside c) (place c) (change c) (record-bytes c) (new c) changed c.requires.2 c.in-Refused-read_list.f (list_refused c.read_list.ensures _ c.in-Refused-read_list.is)) refl)
+    at_which sheet old.end c.args.request record-bytes 0 c.requires.1
+    (refuses pair_bytes pair_size _ sheet c.args.work.now c.args.work.now _
+    (gate_refuses sheet read inside place change record-bytes new changed c.requires.2 c.in-Refused-read_list.f (list_refused c.read_list.ensures _ c.in-Refused-read_list.is)) refl)
 
 pub returns-in-Rules : goal.returns-in-Rules
 returns-in-Rules c =
@@ -402,5 +402,5 @@ returns-in-Rules c =
     rw (c.in-Length.is, gate_bytes_lem sheet read inside) at c.change_list.ensures in
     let accepted : ListAccepted limits.gate (take end made) c.in-Rules.count c.in-Rules.next =
     list_accepted c.read_list.ensures (bytes_take end made (bytes_all made (λ i. omega (arith, c.slice_known-4-1.given i)))) _ _ c.in-Rules.is in
-    at_which (sheet c) (old c).end c.args.request (record-bytes c) 0 c.requires.1
-    (gate_done (sheet c) (read c) (inside c) (place c) (change c) (record-bytes c) (new c) changed c.requires.2 accepted _ c.find_around-around.ensures c.regroup.ensures)
+    at_which sheet old.end c.args.request record-bytes 0 c.requires.1
+    (gate_done sheet read inside place change record-bytes new changed c.requires.2 accepted _ c.find_around-around.ensures c.regroup.ensures)

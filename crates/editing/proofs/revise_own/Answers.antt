@@ -189,9 +189,9 @@ returns-then-not-has_room c =
     c.in-Rules.count in
     let accepted : ListAccepted limits.own (take end made) rules c.in-Rules.next =
     list_accepted c.read_list.ensures (bytes_take end made (bytes_all made (λ i. omega (arith, c.slice_known-3-1.given i)))) _ _ c.in-Rules.is in
-    at_which (sheet c) (old c).end c.args.request (record-bytes c) 1 c.requires.1
-    (refuses pair_bytes pair_size _ (sheet c) (work c) _ TooManyBoxes
-    (own_seven (sheet c) (read c) (inside c) (place c) (change c) (record-bytes c) (new c) changed (ready c).work_room accepted (c.has_room.ensures.1 (not-true c.has_room.result c.if-not-has_room.true-raw))) (own_beyond (sheet c) (read c) (inside c) (place c) (change c) (record-bytes c) (new c) changed (ready c).work_room))
+    at_which sheet old.end c.args.request record-bytes 1 c.requires.1
+    (refuses pair_bytes pair_size _ sheet work _ TooManyBoxes
+    (own_seven sheet read inside place change record-bytes new changed ready.work_room accepted (c.has_room.ensures.1 (not-true c.has_room.result c.if-not-has_room.true-raw))) (own_beyond sheet read inside place change record-bytes new changed ready.work_room))
 
 pub slice_bounds-put_own-end : goal.slice_bounds-put_own-end
 slice_bounds-put_own-end c =
@@ -291,7 +291,7 @@ put_own-requires c =
     list_accepted c.read_list.ensures (bytes_take end made (bytes_all made (λ i. omega (arith, c.slice_known-3-1.given i)))) _ _ c.in-Rules.is in
     let fits : not c.has_room.result ≡ false → old.boxes + rules ≤ limits.total =
     λ h'. c.has_room.ensures.0 (not-false c.has_room.result h') in
-    own_put (sheet c) (read c) (inside c) (place c) (change c) (record-bytes c) (new c) changed (ready c).work_room accepted (fits c.if-not-has_room.false-raw) (ready c).sheet_room
+    own_put sheet read inside place change record-bytes new changed ready.work_room accepted (fits c.if-not-has_room.false-raw) ready.sheet_room
 
 pub returns-in-Refused : goal.returns-in-Refused
 returns-in-Refused c =
@@ -348,8 +348,8 @@ returns-in-Refused-read_list c =
     let changed : ListChanged (changed_bytes (list_bytes (rules_of old.order.own (drop old.order.middle (take old.end sheet)))) old.order.own place change record-bytes) work (Length end) made =
     rw (c.in-Length.is, own_bytes_lem sheet read inside) at c.change_list.ensures in
     let h = list_refused c.read_list.ensures c.in-Refused-read_list.f c.in-Refused-read_list.is in
-    at_which (sheet c) (old c).end c.args.request (record-bytes c) 1 c.requires.1
-    (refuses pair_bytes pair_size _ (sheet c) (work c) _ _ (own_refuses (sheet c) (read c) (inside c) (place c) (change c) (record-bytes c) (new c) changed (ready c).work_room c.in-Refused-read_list.f h) (own_beyond (sheet c) (read c) (inside c) (place c) (change c) (record-bytes c) (new c) changed (ready c).work_room))
+    at_which sheet old.end c.args.request record-bytes 1 c.requires.1
+    (refuses pair_bytes pair_size _ sheet work _ _ (own_refuses sheet read inside place change record-bytes new changed ready.work_room c.in-Refused-read_list.f h) (own_beyond sheet read inside place change record-bytes new changed ready.work_room))
 
 pub returns-else-not-has_room : goal.returns-else-not-has_room
 returns-else-not-has_room c =
@@ -385,4 +385,4 @@ returns-else-not-has_room c =
     list_accepted c.read_list.ensures (bytes_take end made (bytes_all made (λ i. omega (arith, c.slice_known-3-1.given i)))) _ _ c.in-Rules.is in
     let fits : not c.has_room.result ≡ false → old.boxes + rules ≤ limits.total =
     λ h'. c.has_room.ensures.0 (not-false c.has_room.result h') in
-    at_which (sheet c) (old c).end c.args.request (record-bytes c) 1 c.requires.1 (own_done (sheet c) (read c) (inside c) (place c) (change c) (record-bytes c) (new c) changed (ready c).work_room accepted (fits c.if-not-has_room.false-raw) (ready c).sheet_room c.put_own.ensures)
+    at_which sheet old.end c.args.request record-bytes 1 c.requires.1 (own_done sheet read inside place change record-bytes new changed ready.work_room accepted (fits c.if-not-has_room.false-raw) ready.sheet_room c.put_own.ensures)
