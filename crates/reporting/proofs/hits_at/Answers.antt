@@ -1,0 +1,19 @@
+-- `hits_at` meets its contract. Assumes nothing.
+use borrow.Author.Rules.{rules}
+use native.Mathlib.Omega.{arith}
+use Rattle.reporting.proofs.Hits.{readings_there, hits_past, hits_here}
+use Rattle.reporting.proofs.hits_at.Goals as goal
+
+pub returns-then-places-place : goal.returns-then-places-place
+returns-then-places-place c = hits_past _ _ _ _ c.if-places-place.true
+
+pub four_at-requires : goal.four_at-requires
+four_at-requires c = let h = readings_there _ _ _ c.requires.1 in omega (arith, h.0, c.if-places-place.false)
+
+pub four_at-requires-2 : goal.four_at-requires-2
+four_at-requires-2 c = let h = readings_there _ _ _ c.requires.1 in omega (arith, h.1, c.if-places-place.false)
+
+pub returns : goal.returns
+returns c =
+    rw (c.hits_between.ensures, c.four_at-2.ensures, c.four_at.ensures)
+    (hits_here _ _ _ _ (omega (arith, c.if-places-place.false)))
