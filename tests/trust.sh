@@ -27,8 +27,11 @@ there=$(find crates/*/specs -name '*.antt' ! -name Lib.antt ! -name Steps.antt |
 for file in $there crates/foldplover/src/*.rt crates/foldplover_c/src/*.rt; do
     if grep -qE 'use Rattle.*\.specs\.Steps' "$file"; then fault "$file uses a Steps"; fi
 done
+# The logic's definition `sets` is the one name that the standard library hands on from its proofs/.
 for file in crates/*/specs/*.antt $(find crates/*/src -name '*.rt'); do
-    if grep -qE 'use Rattle[^ ]*\.proofs\.' "$file"; then fault "$file takes something from proofs/"; fi
+    if sed '/use Rattle\.std\.proofs\.lemmas\.List\.Edits\.{sets};*$/d' "$file" | grep -qE 'use Rattle[^ ]*\.proofs\.'; then
+        fault "$file takes something from proofs/"
+    fi
 done
 [ "$faults" = 0 ]
 echo "trust: $(echo "$theorems" | wc -w) theorems, $(echo "$there" | wc -w) files to read"
