@@ -6,7 +6,7 @@ set -eu
 cd "$(dirname "$0")/.."
 library=target/staticlib/libfoldplover.a
 flags='-Wall -Wextra -Wpedantic -Werror -Iinclude'
-rt staticlib foldplover >target/staticlib.log 2>&1 || { tail -n 20 target/staticlib.log; exit 1; }
+tests/build library
 
 for test in surface before; do
     tests/x86 gcc -std=c11 $flags -o target/$test tests/c/$test.c $library

@@ -13,7 +13,7 @@ fault() {
 theorems=$(grep -hoE '^((abbrev|unfoldable) )?pub ((record|data) )?[A-Za-z0-9]*Theorem ' crates/*/specs/*.antt | grep -oE '[A-Za-z0-9]*Theorem')
 [ -n "$theorems" ] || fault 'no theorem in specs/'
 for theorem in $theorems; do
-    values=$(find crates/*/proofs -name '*.antt' -exec grep -hE "^ *pub [A-Za-z0-9-]+ : $theorem\$" {} + | wc -l)
+    values=$(find crates/*/proofs -name '*.antt' -exec grep -hE "^ *pub [A-Za-z0-9_-]+ : $theorem\$" {} + | wc -l)
     [ "$values" = 1 ] || fault "$theorem has $values values in proofs/"
     grep -q "\`$theorem\`" docs/TRUST.md || fault "$theorem is not named"
 done
@@ -24,11 +24,14 @@ listed=$(sed -n '/^| [0-9]* | `/p' docs/TRUST.md | cut -d '|' -f 3 | grep -oE '`
 there=$(find crates/*/specs -name '*.antt' ! -name Lib.antt ! -name Steps.antt | sort)
 [ "$listed" = "$there" ] || fault 'its table and the files of specs/ differ'
 
-for file in $there crates/foldplover/src/*.rt; do
+for file in $there crates/foldplover/src/*.rt crates/foldplover_c/src/*.rt; do
     if grep -qE 'use Rattle.*\.specs\.Steps' "$file"; then fault "$file uses a Steps"; fi
 done
+# The logic's definition `sets` is the one name that the standard library hands on from its proofs/.
 for file in crates/*/specs/*.antt $(find crates/*/src -name '*.rt'); do
-    if grep -qE 'use Rattle[^ ]*\.proofs\.' "$file"; then fault "$file takes something from proofs/"; fi
+    if sed '/use Rattle\.std\.proofs\.lemmas\.List\.Edits\.{sets};*$/d' "$file" | grep -qE 'use Rattle[^ ]*\.proofs\.'; then
+        fault "$file takes something from proofs/"
+    fi
 done
 [ "$faults" = 0 ]
 echo "trust: $(echo "$theorems" | wc -w) theorems, $(echo "$there" | wc -w) files to read"

@@ -1,4 +1,5 @@
-// The calls for C. Each hands over to the call of the crate below, and turns its answer into one number.
+// The calls as C has them. Each hands over to the call of the crate below, and turns its answer into one number. The crate foldplover_c
+// gives them to C.
 #![tactic(auto)]
 
 pub mod lookup_table;
@@ -31,15 +32,13 @@ fn answer_number(a: Answer) -> u32
     }
 }
 
-#[unsafe(no_mangle)]
-pub extern "C" fn foldplover_move(order: &[u8], sheet: &mut [u8], work: &mut [u8]) -> u32
+pub fn foldplover_move(order: &[u8], sheet: &mut [u8], work: &mut [u8]) -> u32
     ensures { Coded (λ q. Moves order.now sheet.old work.old q sheet.new work.new) result }
 {
     answer_number(moving::move_order(order, sheet, work))
 }
 
-#[unsafe(no_mangle)]
-pub extern "C" fn foldplover_insert(
+pub fn foldplover_insert(
     sheet: &mut [u8],
     used: usize,
     which: u32,
@@ -57,8 +56,7 @@ pub extern "C" fn foldplover_insert(
     answer_number(editing::edit(sheet, used, request, bytes, work))
 }
 
-#[unsafe(no_mangle)]
-pub extern "C" fn foldplover_delete(
+pub fn foldplover_delete(
     sheet: &mut [u8],
     used: usize,
     which: u32,
@@ -76,8 +74,7 @@ pub extern "C" fn foldplover_delete(
     answer_number(editing::edit(sheet, used, request, &none, work))
 }
 
-#[unsafe(no_mangle)]
-pub extern "C" fn foldplover_replace(
+pub fn foldplover_replace(
     sheet: &mut [u8],
     used: usize,
     which: u32,
@@ -95,50 +92,43 @@ pub extern "C" fn foldplover_replace(
     answer_number(editing::edit(sheet, used, request, bytes, work))
 }
 
-#[unsafe(no_mangle)]
-pub extern "C" fn foldplover_check(sheet: &[u8], work: &mut [u8]) -> u32
+pub fn foldplover_check(sheet: &[u8], work: &mut [u8]) -> u32
     ensures { Coded (λ q. Checks sheet.now work.old q work.new) result }
 {
     answer_number(checking::check(sheet, work))
 }
 
-#[unsafe(no_mangle)]
-pub extern "C" fn foldplover_cell_list(sheet: &[u8], out: &mut [u8], work: &mut [u8]) -> u32
+pub fn foldplover_cell_list(sheet: &[u8], out: &mut [u8], work: &mut [u8]) -> u32
     ensures { Coded (λ q. Lists cell_bytes cell_list_size sheet.now out.old work.old q out.new work.new) result }
 {
     answer_number(listing::cell_list(sheet, out, work))
 }
 
-#[unsafe(no_mangle)]
-pub extern "C" fn foldplover_gate_list(sheet: &[u8], out: &mut [u8], work: &mut [u8]) -> u32
+pub fn foldplover_gate_list(sheet: &[u8], out: &mut [u8], work: &mut [u8]) -> u32
     ensures { Coded (λ q. Lists gate_bytes gate_list_size sheet.now out.old work.old q out.new work.new) result }
 {
     answer_number(listing::gate_list(sheet, out, work))
 }
 
-#[unsafe(no_mangle)]
-pub extern "C" fn foldplover_split(order: &[u8], a: &mut [u8], b: &mut [u8]) -> u32
+pub fn foldplover_split(order: &[u8], a: &mut [u8], b: &mut [u8]) -> u32
     ensures { Coded (λ q. Split order.now a.old b.old q a.new b.new) result }
 {
     answer_number(orders::split(order, a, b))
 }
 
-#[unsafe(no_mangle)]
-pub extern "C" fn foldplover_join(a: &[u8], b: &[u8], order: &mut [u8]) -> u32
+pub fn foldplover_join(a: &[u8], b: &[u8], order: &mut [u8]) -> u32
     ensures { Coded (λ q. Join a.now b.now order.old q order.new) result }
 {
     answer_number(orders::join(a, b, order))
 }
 
-#[unsafe(no_mangle)]
-pub extern "C" fn foldplover_rule(bytes: &[u8], numbers: &mut [u32]) -> u32
+pub fn foldplover_rule(bytes: &[u8], numbers: &mut [u32]) -> u32
     ensures { Coded (λ q. RecordRead bytes.now numbers.old q numbers.new) result }
 {
     answer_number(records::rule(bytes, numbers))
 }
 
-#[unsafe(no_mangle)]
-pub extern "C" fn foldplover_record(numbers: &[u32], bytes: &mut [u8]) -> u32
+pub fn foldplover_record(numbers: &[u32], bytes: &mut [u8]) -> u32
     ensures { Coded (λ q. RecordWritten numbers.now bytes.old q bytes.new) result }
 {
     answer_number(records::record(numbers, bytes))
@@ -151,22 +141,13 @@ fn packet_of(src: u32, dst: u32, sport: u32, dport: u32, proto: u32) -> Packet
     Packet { values }
 }
 
-#[unsafe(no_mangle)]
-pub extern "C" fn foldplover_lookup(
-    src: u32,
-    dst: u32,
-    sport: u32,
-    dport: u32,
-    proto: u32,
-    list: &[u8],
-) -> u32
+pub fn foldplover_lookup(src: u32, dst: u32, sport: u32, dport: u32, proto: u32, list: &[u8]) -> u32
     ensures { result ≡ lookup_number (lookup limits.total (src ∷ dst ∷ sport ∷ dport ∷ proto ∷ []) list.now) }
 {
     filter::lookup_number(packet_of(src, dst, sport, dport, proto), list)
 }
 
-#[unsafe(no_mangle)]
-pub extern "C" fn foldplover_origin(
+pub fn foldplover_origin(
     src: u32,
     dst: u32,
     sport: u32,
@@ -182,8 +163,7 @@ pub extern "C" fn foldplover_origin(
     answer_number(origins::origin(p, sheet, numbers, work))
 }
 
-#[unsafe(no_mangle)]
-pub extern "C" fn foldplover_report(
+pub fn foldplover_report(
     sheet: &[u8],
     packets: &[u8],
     earlier: &[u8],

@@ -8,8 +8,7 @@ ghost use Rattle.table.specs.Table.{lookup_table};
 use crate::packet_of;
 use policy::Rule;
 
-#[unsafe(no_mangle)]
-pub extern "C" fn foldplover_lookup_table(
+pub fn foldplover_lookup_table(
     src: u32,
     dst: u32,
     sport: u32,

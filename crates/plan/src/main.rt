@@ -3,9 +3,10 @@
 #![tactic(auto)]
 
 use sheet::ORDER_BYTES;
+use std::io;
 
-fn main() {
+fn main(rt: HostRuntime) -> io::Result<()> {
     let mut order = [0u8; ORDER_BYTES + 1];
-    let n = io::read_full(0, &mut order);
-    printing::print_plan(&order[..n]);
+    let n = reading::read_full(&mut rt.stdin(), &mut order)?;
+    printing::print_plan(&rt, &order[..n])
 }

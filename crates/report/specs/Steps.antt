@@ -7,12 +7,12 @@ use Rattle.report.specs.declared.Counted.{Counted}
 use Rattle.report.specs.declared.Counted.TheVariants as C
 
 -- So many bytes are at the front of the buffer.
-unfoldable pub Within : List ℕ → FileRead → Type 0
+abbrev pub Within : List ℕ → FileRead → Type 0
 Within s (F.Bytes n) = n ≤ length s
 Within s F.Failed = Unit {0}
 
 -- A load that goes on is one that another block can be added to.
-unfoldable pub GoesOn : Counted → Type 0
+abbrev pub GoesOn : Counted → Type 0
 GoesOn (C.More t) = Bounded (load_value t)
 GoesOn (C.Last t) = Unit {0}
 GoesOn (C.Refused f) = Unit {0}

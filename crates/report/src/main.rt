@@ -10,13 +10,16 @@ ghost use Rattle.reporting.specs.Report.{are_readings, hits_size};
 ghost use Rattle.report.specs.Steps.{Within, GoesOn};
 
 use groups::WORK_BYTES;
-use libc::{PATH_MAX, STDOUT_FILENO};
 use load::{Added, Load, PACKET_BYTES, PACKETS_MOST};
 use policy::Refusal;
 use printing::{print_number, print_refusal, print_text};
 use reporting::{HITS_NUMBERS, READING_BYTES};
 use rows::TABLE_NUMBERS;
 use sheet::{PAIR_BYTES, PairLayout, PairParts};
+use std::env::FillError;
+use std::io::Read;
+use std::rt::Env;
+use std::{fs, io};
 
 // The arguments' places.
 const SHEET: usize = 1;
@@ -27,18 +30,21 @@ const EARLIER: usize = 3;
 
 const LATER: usize = 4;
 
+// The bytes of the longest path, and one more.
+const NAME_BYTES: usize = 4096;
+
 // A block fills the work buffer, and is of whole packets. So many blocks have more packets than a report may.
 const BLOCKS_MOST: usize = PACKETS_MOST * PACKET_BYTES / WORK_BYTES + 1;
 
 // The bytes of a file of readings for the longest list.
 const READINGS_BYTES: usize = READING_BYTES * HITS_NUMBERS;
 
-#[derive(Clone, Copy)]
-struct Files {
-    sheet: i32,
-    packets: i32,
-    earlier: i32,
-    later: i32,
+#[derive(Drop)]
+struct Files<F> {
+    sheet: F,
+    packets: F,
+    earlier: F,
+    later: F,
 }
 
 // How many bytes a file gave, or that it could not be read.
@@ -58,46 +64,49 @@ enum Counted {
 }
 
 // A file that cannot be opened or read, by the name that it was given. Of a name longer than any path the front is printed.
-fn print_unread(argument: usize) {
-    let mut name = [0u8; PATH_MAX];
-    let n = os::arg(argument, &mut name);
-    print_text(b"cannot read ");
-    if os::errno() == libc::ENAMETOOLONG {
-        print_text(&name);
-    } else {
-        print_text(&name[..n]);
+fn print_unread(rt: &(impl Env + Print), argument: usize) -> io::Result<()> {
+    let mut name = [0u8; NAME_BYTES];
+    print_text(rt, b"cannot read ")?;
+    match rt.arg(argument, &mut name) {
+        Ok(n) => print_text(rt, &name[..n])?,
+        Err(FillError::TooLong) => print_text(rt, &name)?,
+        Err(FillError::NotPresent) => {}
     }
-    print_text(b"\n");
+    print_text(rt, b"\n")
 }
 
-fn open_argument(argument: usize) -> i32 {
-    let mut name = [0u8; PATH_MAX];
-    let n = os::arg(argument, &mut name);
-    let fd = os::open_read(&name[..n]);
-    if fd < 0 {
-        print_unread(argument);
-    }
-    fd
+// The file that an argument names. A path is text, so a name that is none names no file.
+fn open_named<R: Env + fs::Files>(rt: &R, argument: usize) -> Option<R::File> {
+    let mut name = [0u8; NAME_BYTES];
+    let n = rt.arg(argument, &mut name).ok()?;
+    let path = str::from_utf8(&name[..n]).ok()?;
+    fs::open(rt, path).ok()
 }
 
-// Reads until the buffer is full or the file ends. It has ended only where one read more gives nothing: a read that failed ends
-// `read_full` too.
-fn read_file(fd: i32, buffer: &mut [u8]) -> FileRead
+fn open_argument<R: Env + fs::Files + Print>(
+    rt: &R,
+    argument: usize,
+) -> io::Result<Option<R::File>> {
+    let file = open_named(rt, argument);
+    if file.is_none() {
+        print_unread(rt, argument)?;
+    }
+    Ok(file)
+}
+
+// Reads until the buffer is full or the file ends.
+fn read_file(file: &mut impl Read, buffer: &mut [u8]) -> FileRead
     ensures { Within buffer.new result }
 {
-    let n = io::read_full(fd, buffer);
-    if n < buffer.len() {
-        let mut more = [0u8; 1];
-        if libc::read(fd, &mut more) != 0 {
-            return FileRead::Failed;
-        }
+    match reading::read_full(file, buffer) {
+        Ok(n) => FileRead::Bytes(n),
+        Err(_) => FileRead::Failed,
     }
-    FileRead::Bytes(n)
 }
 
 // A block that does not fill the buffer is the last one.
 fn add_next(
-    fd: i32,
+    packets: &mut impl Read,
     t: Load,
     sheet: &[u8],
     layout: PairLayout,
@@ -107,7 +116,7 @@ fn add_next(
     requires { Checked sheet.now layout × Tabled sheet.now layout table.now × Bounded (load_value t) }
     ensures { GoesOn result }
 {
-    match read_file(fd, block) {
+    match read_file(packets, block) {
         FileRead::Failed => Counted::Failed,
         FileRead::Bytes(n) => match load::add_block(t, &block[..n], sheet, layout, table) {
             Added::Refused(f) => Counted::Refused(f),
@@ -122,13 +131,19 @@ fn add_next(
 }
 
 // All blocks added, or as many of them as have more packets than a report may.
-fn add_all(fd: i32, sheet: &[u8], layout: PairLayout, table: &[u32], block: &mut [u8]) -> Counted
+fn add_all(
+    packets: &mut impl Read,
+    sheet: &[u8],
+    layout: PairLayout,
+    table: &[u32],
+    block: &mut [u8],
+) -> Counted
     requires { Checked sheet.now layout × Tabled sheet.now layout table.now }
 {
     let mut sum = Load::none();
     let mut left = BLOCKS_MOST;
     while 0 < left {
-        match add_next(fd, sum, sheet, layout, table, block) {
+        match add_next(packets, sum, sheet, layout, table, block) {
             Counted::More(t) => {
                 sum = t;
             }
@@ -147,136 +162,142 @@ fn add_all(fd: i32, sheet: &[u8], layout: PairLayout, table: &[u32], block: &mut
     Counted::More(sum)
 }
 
-fn print_total(name: &[u8], n: u64) {
-    print_text(name);
-    io::print_decimal(STDOUT_FILENO, n);
-    print_text(b"\n");
+fn print_total(rt: &impl Print, name: &str, n: u64) -> io::Result<()> {
+    println!(rt; "{name} {n}")
 }
 
-fn print_gain(t: Load) {
+fn print_gain(rt: &impl Print, t: Load) -> io::Result<()> {
     if t.packets == 0 {
-        print_text(b"gain none\n");
-        return;
+        return print_text(rt, b"gain none\n");
     }
     let gain = t.gain();
-    print_text(b"gain ");
-    io::print_decimal(STDOUT_FILENO, gain.numerator);
-    print_text(b"/");
-    io::print_decimal(STDOUT_FILENO, gain.denominator);
-    print_text(b"\n");
+    let numerator = gain.numerator;
+    let denominator = gain.denominator;
+    println!(rt; "gain {numerator}/{denominator}")
 }
 
-fn print_load(t: Load) {
-    print_total(b"packets ", t.packets);
-    print_total(b"before ", t.before);
-    print_total(b"after ", t.after);
-    print_total(b"forwarded ", t.forwarded);
-    print_gain(t);
+fn print_load(rt: &impl Print, t: Load) -> io::Result<()> {
+    print_total(rt, "packets", t.packets)?;
+    print_total(rt, "before", t.before)?;
+    print_total(rt, "after", t.after)?;
+    print_total(rt, "forwarded", t.forwarded)?;
+    print_gain(rt, t)
 }
 
 // A line for each place of the cell list.
-fn print_hits(earlier: &[u8], later: &[u8], places: usize)
+fn print_hits(rt: &impl Print, earlier: &[u8], later: &[u8], places: usize) -> io::Result<()>
     requires { (places ≤ hits_size) × (are_readings places earlier.now later.now ≡ true) }
 {
     for place in 0..places {
-        print_number(place);
-        print_text(b" ");
-        print_number(reporting::hits_at(earlier, later, places, place) as usize);
-        print_text(b"\n");
+        print_number(rt, place)?;
+        print_text(rt, b" ")?;
+        print_number(
+            rt,
+            reporting::hits_at(earlier, later, places, place) as usize,
+        )?;
+        print_text(rt, b"\n")?;
     }
+    Ok(())
 }
 
 // The lengths of both files of readings, then the packets.
 fn print_loaded(
-    packets: i32,
+    rt: &(impl Env + Print),
+    packets: &mut impl Read,
     sheet: &[u8],
     layout: PairLayout,
     earlier: &[u8],
     later: &[u8],
     block: &mut [u8],
-)
+) -> io::Result<()>
     requires { Checked sheet.now layout }
 {
     let places = layout.boxes + layout.order.own;
     if !reporting::are_readings(earlier, later, places) {
-        print_refusal(Refusal::LengthWrong);
-        return;
+        return print_refusal(rt, Refusal::LengthWrong);
     }
     let mut table = [0u32; TABLE_NUMBERS];
     rows::put_table(sheet, layout, &mut table);
     match add_all(packets, sheet, layout, &table, block) {
-        Counted::Failed => print_unread(PACKETS),
-        Counted::Refused(f) => print_refusal(f),
-        Counted::More(_) => print_refusal(Refusal::CountOutside),
+        Counted::Failed => print_unread(rt, PACKETS),
+        Counted::Refused(f) => print_refusal(rt, f),
+        Counted::More(_) => print_refusal(rt, Refusal::CountOutside),
         Counted::Last(t) => {
-            print_load(t);
-            print_hits(earlier, later, places);
+            print_load(rt, t)?;
+            print_hits(rt, earlier, later, places)
         }
     }
 }
 
 // One byte more than the readings of the longest list tells that a file is too long.
-fn print_checked(files: Files, sheet: &[u8], layout: PairLayout, block: &mut [u8])
+fn print_checked<F: Read + Drop>(
+    rt: &(impl Env + Print),
+    mut files: Files<F>,
+    sheet: &[u8],
+    layout: PairLayout,
+    block: &mut [u8],
+) -> io::Result<()>
     requires { Checked sheet.now layout }
 {
     let mut earlier = [0u8; READINGS_BYTES + 1];
     let mut later = [0u8; READINGS_BYTES + 1];
-    match read_file(files.earlier, &mut earlier) {
-        FileRead::Failed => print_unread(EARLIER),
-        FileRead::Bytes(e) => match read_file(files.later, &mut later) {
-            FileRead::Failed => print_unread(LATER),
-            FileRead::Bytes(l) => {
-                print_loaded(
-                    files.packets,
-                    sheet,
-                    layout,
-                    &earlier[..e],
-                    &later[..l],
-                    block,
-                )
-            }
+    match read_file(&mut files.earlier, &mut earlier) {
+        FileRead::Failed => print_unread(rt, EARLIER),
+        FileRead::Bytes(e) => match read_file(&mut files.later, &mut later) {
+            FileRead::Failed => print_unread(rt, LATER),
+            FileRead::Bytes(l) => print_loaded(
+                rt,
+                &mut files.packets,
+                sheet,
+                layout,
+                &earlier[..e],
+                &later[..l],
+                block,
+            ),
         },
     }
 }
 
 // The sheet is checked before anything else is read, and the work buffer then holds the blocks.
-fn print_report(files: Files) {
+fn print_report<F: Read + Drop>(rt: &(impl Env + Print), mut files: Files<F>) -> io::Result<()> {
     let mut sheet = [0u8; PAIR_BYTES + 1];
     let mut work = [0u8; WORK_BYTES];
-    match read_file(files.sheet, &mut sheet) {
-        FileRead::Failed => print_unread(SHEET),
+    match read_file(&mut files.sheet, &mut sheet) {
+        FileRead::Failed => print_unread(rt, SHEET),
         FileRead::Bytes(n) => match checking::checked(&sheet[..n], &mut work) {
-            PairParts::Refused(f) => print_refusal(f),
-            PairParts::Parts(layout) => print_checked(files, &sheet[..n], layout, &mut work),
+            PairParts::Refused(f) => print_refusal(rt, f),
+            PairParts::Parts(layout) => print_checked(rt, files, &sheet[..n], layout, &mut work),
         },
     }
 }
 
-fn main() {
-    if os::arg_count() != 5 {
-        print_text(b"usage: report SHEET PACKETS EARLIER LATER\n");
-        return;
+// Whether the program was given this argument.
+fn is_given(rt: &impl Env, argument: usize) -> bool {
+    let mut start = [0u8; 1];
+    !matches!(rt.arg(argument, &mut start), Err(FillError::NotPresent))
+}
+
+fn main(rt: HostRuntime) -> io::Result<()> {
+    if !is_given(&rt, LATER) || is_given(&rt, LATER + 1) {
+        return print_text(&rt, b"usage: report SHEET PACKETS EARLIER LATER\n");
     }
-    let sheet = open_argument(SHEET);
-    if sheet < 0 {
-        return;
-    }
-    let packets = open_argument(PACKETS);
-    if packets < 0 {
-        return;
-    }
-    let earlier = open_argument(EARLIER);
-    if earlier < 0 {
-        return;
-    }
-    let later = open_argument(LATER);
-    if later < 0 {
-        return;
-    }
-    print_report(Files {
+    let Some(sheet) = open_argument(&rt, SHEET)? else {
+        return Ok(());
+    };
+    let Some(packets) = open_argument(&rt, PACKETS)? else {
+        return Ok(());
+    };
+    let Some(earlier) = open_argument(&rt, EARLIER)? else {
+        return Ok(());
+    };
+    let Some(later) = open_argument(&rt, LATER)? else {
+        return Ok(());
+    };
+    let files = Files {
         sheet,
         packets,
         earlier,
         later,
-    });
+    };
+    print_report(&rt, files)
 }

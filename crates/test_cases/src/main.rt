@@ -2,13 +2,14 @@
 // number that each call answers is printed. The format stands in tests/second/README.md.
 #![tactic(auto)]
 
-ghost use Rattle.std.specs.Prelude.{◌≤◌, ◌<◌, length};
+ghost use Rattle.std.specs.Prelude.{◌≤◌, ◌<◌, length, IfOk};
 
 use foldplover::{foldplover_delete, foldplover_insert, foldplover_move, foldplover_replace};
 use groups::WORK_BYTES;
 use policy::{COUNT_BYTES, RECORD_BYTES, REFUSAL_BASE};
-use printing::{print_number, print_text};
 use sheet::PAIR_BYTES;
+use std::io;
+use std::io::Read;
 
 // An edit as the stream has it.
 #[derive(Clone, Copy)]
@@ -19,35 +20,35 @@ struct Edit {
     record: [u8; RECORD_BYTES],
 }
 
-fn read_byte() -> u8 {
+fn read_byte(input: &mut impl Read) -> io::Result<u8> {
     let mut one = [0u8; 1];
-    io::read_full(0, &mut one);
-    one[0]
+    reading::read_full(input, &mut one)?;
+    Ok(one[0])
 }
 
 // A number of two bytes; 0 where the stream ends.
-fn read_number() -> usize
-    ensures { result < 65536 }
+fn read_number(input: &mut impl Read) -> io::Result<usize>
+    ensures { IfOk result (λ n. n < 65536) }
 {
     let mut two = [0u8; COUNT_BYTES];
-    io::read_full(0, &mut two);
-    wire::count_at(&two, 0)
+    reading::read_full(input, &mut two)?;
+    Ok(wire::count_at(&two, 0))
 }
 
-fn read_edit() -> Edit {
-    let kind = read_byte();
-    let which = read_byte();
-    let place = read_number();
+fn read_edit(input: &mut impl Read) -> io::Result<Edit> {
+    let kind = read_byte(input)?;
+    let which = read_byte(input)?;
+    let place = read_number(input)?;
     let mut record = [0u8; RECORD_BYTES];
     if kind != 1 {
-        io::read_full(0, &mut record);
+        reading::read_full(input, &mut record)?;
     }
-    Edit {
+    Ok(Edit {
         kind,
         which,
         place,
         record,
-    }
+    })
 }
 
 // A byte times its number, counted from 1.
@@ -89,41 +90,50 @@ fn edited(sheet: &mut [u8], used: usize, e: Edit) -> u32 {
 }
 
 // One edit done and printed, unless the move was refused; the sheet's length after it.
-fn play_edit(sheet: &mut [u8], moved: u32, used: usize, e: Edit) -> usize
+fn play_edit(
+    rt: &impl Print,
+    sheet: &mut [u8],
+    moved: u32,
+    used: usize,
+    e: Edit,
+) -> io::Result<usize>
     requires { length sheet.old < 65536 }
 {
     if REFUSAL_BASE <= moved {
-        return used;
+        return Ok(used);
     }
     let answer = edited(sheet, used, e);
     let mut length = used;
     if answer < REFUSAL_BASE {
         length = answer as usize;
     }
-    print_text(b"edit ");
-    print_number(answer as usize);
-    print_text(b" sum ");
-    print_number(sum_of(sheet, length));
-    print_text(b"\n");
-    length
+    let sum = sum_of(sheet, length);
+    println!(rt; "edit {answer} sum {sum}")?;
+    Ok(length)
 }
 
 // The edits of one order sheet, whose move gave this number.
-fn play_edits(sheet: &mut [u8], moved: u32)
+fn play_edits(
+    rt: &impl Print,
+    input: &mut impl Read,
+    sheet: &mut [u8],
+    moved: u32,
+) -> io::Result<()>
     requires { length sheet.old < 65536 }
 {
     let mut used = moved as usize;
-    let mut left = read_number();
+    let mut left = read_number(input)?;
     while 0 < left {
-        used = play_edit(sheet, moved, used, read_edit());
+        used = play_edit(rt, sheet, moved, used, read_edit(input)?)?;
         left -= 1;
     }
+    Ok(())
 }
 
-fn read_part(order: &mut [u8], n: usize)
+fn read_part(input: &mut impl Read, order: &mut [u8], n: usize) -> io::Result<usize>
     requires { n ≤ length order.old }
 {
-    io::read_full(0, &mut order[..n]);
+    reading::read_full(input, &mut order[..n])
 }
 
 fn move_part(order: &[u8], n: usize, sheet: &mut [u8]) -> u32
@@ -134,25 +144,25 @@ fn move_part(order: &[u8], n: usize, sheet: &mut [u8]) -> u32
 }
 
 // One order sheet and its edits; whether there was one.
-fn play_case() -> bool {
-    let n = read_number();
+fn play_case(rt: &impl Print, input: &mut impl Read) -> io::Result<bool> {
+    let n = read_number(input)?;
     if n == 0 {
-        return false;
+        return Ok(false);
     }
     let mut order = [0u8; 65535];
     let mut sheet = [0u8; PAIR_BYTES];
-    read_part(&mut order, n);
+    read_part(input, &mut order, n)?;
     let answer = move_part(&order, n, &mut sheet);
-    print_text(b"move ");
-    print_number(answer as usize);
-    print_text(b"\n");
-    play_edits(&mut sheet, answer);
-    true
+    println!(rt; "move {answer}")?;
+    play_edits(rt, input, &mut sheet, answer)?;
+    Ok(true)
 }
 
-fn main() {
+fn main(rt: HostRuntime) -> io::Result<()> {
+    let mut input = rt.stdin();
     let mut turns: u64 = 1000000;
-    while turns > 0 && play_case() {
+    while turns > 0 && play_case(&rt, &mut input)? {
         turns -= 1;
     }
+    Ok(())
 }

@@ -2,34 +2,30 @@
 #![tactic(auto)]
 
 use sheet::ORDER_BYTES;
+use std::rt::Files;
+use std::{fs, io};
 
-fn case(name: &[u8]) {
+fn case(rt: &(impl Files + Print), name: &str) -> io::Result<()> {
     let mut order = [0u8; ORDER_BYTES + 1];
-    let fd = os::open_read(name);
-    if fd < 0 {
-        os::fail(name);
-        return;
-    }
-    let n = io::read_full(fd, &mut order);
-    libc::close(fd);
-    printing::print_text(name);
-    printing::print_text(b"\n");
-    printing::print_plan(&order[..n]);
+    let mut file = fs::open(rt, name)?;
+    let n = reading::read_full(&mut file, &mut order)?;
+    println!(rt; "{name}")?;
+    printing::print_plan(rt, &order[..n])
 }
 
-fn main() {
-    case(b"dairy.order");
-    case(b"plant.order");
-    case(b"refused.order");
-    case(b"empty.order");
-    case(b"largest.order");
-    case(b"longer.order");
-    case(b"no_rule.order");
-    case(b"too_many_rules.order");
-    case(b"cut_off.order");
-    case(b"left_over.order");
-    case(b"low_above_high.order");
-    case(b"action_2.order");
-    case(b"not_full.order");
-    case(b"too_many_boxes.order");
+fn main(rt: HostRuntime) -> io::Result<()> {
+    case(&rt, "dairy.order")?;
+    case(&rt, "plant.order")?;
+    case(&rt, "refused.order")?;
+    case(&rt, "empty.order")?;
+    case(&rt, "largest.order")?;
+    case(&rt, "longer.order")?;
+    case(&rt, "no_rule.order")?;
+    case(&rt, "too_many_rules.order")?;
+    case(&rt, "cut_off.order")?;
+    case(&rt, "left_over.order")?;
+    case(&rt, "low_above_high.order")?;
+    case(&rt, "action_2.order")?;
+    case(&rt, "not_full.order")?;
+    case(&rt, "too_many_boxes.order")
 }

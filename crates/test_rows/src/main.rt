@@ -8,6 +8,7 @@ use groups::WORK_BYTES;
 use policy::{Answer, Box, COUNT_BYTES, FIELDS, HIGHEST, RECORD_BYTES, Rule};
 use printing::{print_number, print_refusal, print_text};
 use sheet::{ORDER_BYTES, PAIR_BYTES, PairParts};
+use std::io;
 
 const DENY: u32 = 0;
 
@@ -131,61 +132,61 @@ fn cube(order: &mut [u8]) -> usize
     add_own(order, at, 1)
 }
 
-fn print_boxes(sheet: &[u8], n: usize)
+fn print_boxes(rt: &impl Print, sheet: &[u8], n: usize) -> io::Result<()>
     requires { n ≤ length sheet.now }
 {
     match sheet::read_pair(&sheet[..n]) {
-        PairParts::Refused(_) => print_text(b"no pair sheet\n"),
+        PairParts::Refused(_) => print_text(rt, b"no pair sheet\n"),
         PairParts::Parts(layout) => {
-            print_number(layout.boxes);
-            print_text(b" boxes\n");
+            print_number(rt, layout.boxes)?;
+            print_text(rt, b" boxes\n")
         }
     }
 }
 
-fn print_move(order: &[u8], end: usize)
+fn print_move(rt: &impl Print, order: &[u8], end: usize) -> io::Result<()>
     requires { end ≤ length order.now }
 {
     let mut sheet = [0u8; PAIR_BYTES];
     let mut work = [0u8; WORK_BYTES];
     match moving::move_order(&order[..end], &mut sheet, &mut work) {
-        Answer::Refused(f) => print_refusal(f),
-        Answer::Length(n) => print_boxes(&sheet, n),
+        Answer::Refused(f) => print_refusal(rt, f),
+        Answer::Length(n) => print_boxes(rt, &sheet, n),
     }
 }
 
-fn comb_row(own: usize)
+fn comb_row(rt: &impl Print, own: usize) -> io::Result<()>
     requires { own < 65536 }
 {
     let mut order = [0u8; ORDER_BYTES];
     let n = comb(&mut order, own);
-    print_text(b"31 sources, 31 denies, ");
-    print_number(own);
-    print_text(b" own rules: ");
-    print_move(&order, n);
+    print!(rt; "31 sources, 31 denies, {own} own rules: ")?;
+    print_move(rt, &order, n)
 }
 
-fn grid_row(sources: u32)
+fn grid_row(rt: &impl Print, sources: u32) -> io::Result<()>
     requires { sources ≤ 32 }
 {
     let mut order = [0u8; ORDER_BYTES];
     let n = grid(&mut order, sources);
-    print_number(sources as usize);
-    print_text(b" sources, 31 destinations, deny all, 1 own rule: ");
-    print_move(&order, n);
+    print!(rt; "{sources} sources, 31 destinations, deny all, 1 own rule: ")?;
+    print_move(rt, &order, n)
 }
 
-fn cube_row() {
+fn cube_row(rt: &impl Print) -> io::Result<()> {
     let mut order = [0u8; ORDER_BYTES];
     let n = cube(&mut order);
-    print_text(b"10 values in each of 3 fields, allow all, deny all, 1 own rule: ");
-    print_move(&order, n);
+    print_text(
+        rt,
+        b"10 values in each of 3 fields, allow all, deny all, 1 own rule: ",
+    )?;
+    print_move(rt, &order, n)
 }
 
-fn main() {
-    comb_row(32);
-    comb_row(33);
-    grid_row(31);
-    grid_row(32);
-    cube_row();
+fn main(rt: HostRuntime) -> io::Result<()> {
+    comb_row(&rt, 32)?;
+    comb_row(&rt, 33)?;
+    grid_row(&rt, 31)?;
+    grid_row(&rt, 32)?;
+    cube_row(&rt)
 }

@@ -5,8 +5,9 @@
 use foldplover::{foldplover_delete, foldplover_insert, foldplover_move, foldplover_replace};
 use groups::WORK_BYTES;
 use policy::{BOX_BYTES, RECORD_BYTES, REFUSAL_BASE};
-use printing::{print_number, print_text};
+use printing::print_text;
 use sheet::PAIR_BYTES;
+use std::io;
 use test_draws::order::{LISTS_BYTES, part};
 use test_draws::{DELETE, Edit, INSERT, Shape, order};
 
@@ -36,7 +37,7 @@ const LIST_TALLIES: usize = 5;
 
 fn is_zero(work: &[u8]) -> bool {
     let zeros = [0u8; WORK_BYTES];
-    check::same(work, &zeros)
+    work == zeros.as_slice()
 }
 
 // The library's call for an edit.
@@ -90,7 +91,7 @@ fn take_over(answer: u32, new: &[u8], old: &mut [u8]) {
         return;
     }
     if new.len() <= old.len() {
-        bytes::copy(new, old);
+        old[..new.len()].copy_from_slice(new);
     }
 }
 
@@ -145,7 +146,7 @@ fn play_edit(
     if answer != right {
         return 0;
     }
-    if !check::same(sheet, kept) {
+    if &*sheet != &*kept {
         return 0;
     }
     count_answer(tally, e, answer);
@@ -183,59 +184,61 @@ fn play_edits(
     done
 }
 
-fn print_count(n: u32) {
-    print_text(b" ");
-    print_number(n as usize);
+fn print_count(rt: &impl Print, n: u32) -> io::Result<()> {
+    print!(rt; " {n}")
 }
 
 // The counts of the tally from `from` up to `to`.
-fn print_counts(tally: &[u32], from: usize, to: usize) {
+fn print_counts(rt: &impl Print, tally: &[u32], from: usize, to: usize) -> io::Result<()> {
     let mut i = from;
     while i < to {
         if i < tally.len() {
-            print_count(tally[i]);
+            print_count(rt, tally[i])?;
         }
         i += 1;
     }
+    Ok(())
 }
 
 // Whether the run came to its end without a difference.
-fn print_end(shape: Shape, done: u32) {
-    print_count(done);
+fn print_end(rt: &impl Print, shape: Shape, done: u32) -> io::Result<()> {
+    print_count(rt, done)?;
     if done < shape.edits {
-        print_text(b" edits, then one that differs");
-        return;
+        return print_text(rt, b" edits, then one that differs");
     }
-    print_text(b" edits, 0 differ");
+    print_text(rt, b" edits, 0 differ")
 }
 
-fn print_run(shape: Shape, tally: &[u32], done: u32) {
-    print_text(b"seed");
-    print_count(shape.seed);
-    print_text(b":");
-    print_end(shape, done);
-    print_text(b"; accepted, refused with 1 to 9:");
-    print_counts(tally, 0, BY_LIST);
-    print_text(b"; inserts, deletes, replaces, denies and allows put in: A");
-    print_counts(tally, BY_LIST, BY_LIST + LIST_TALLIES);
-    print_text(b", B");
-    print_counts(tally, BY_LIST + LIST_TALLIES, TALLIES);
-    print_text(b"\n");
+fn print_run(rt: &impl Print, shape: Shape, tally: &[u32], done: u32) -> io::Result<()> {
+    print_text(rt, b"seed")?;
+    print_count(rt, shape.seed)?;
+    print_text(rt, b":")?;
+    print_end(rt, shape, done)?;
+    print_text(rt, b"; accepted, refused with 1 to 9:")?;
+    print_counts(rt, tally, 0, BY_LIST)?;
+    print_text(
+        rt,
+        b"; inserts, deletes, replaces, denies and allows put in: A",
+    )?;
+    print_counts(rt, tally, BY_LIST, BY_LIST + LIST_TALLIES)?;
+    print_text(rt, b", B")?;
+    print_counts(rt, tally, BY_LIST + LIST_TALLIES, TALLIES)?;
+    print_text(rt, b"\n")
 }
 
-fn play(shape: Shape) {
+fn play(rt: &impl Print, shape: Shape) -> io::Result<()> {
     let mut order = [0u8; LISTS_BYTES];
     let mut sheet = [FIRST_DIRT; PAIR_BYTES];
     let mut kept = [0u8; PAIR_BYTES];
     let mut tally = [0u32; TALLIES];
     let first = begin(&mut order, &mut sheet, &mut kept);
     let done = play_edits(&mut order, &mut sheet, &mut kept, first, &mut tally, shape);
-    print_run(shape, &tally, done);
+    print_run(rt, shape, &tally, done)
 }
 
 // Small ranges in one of two fields: many cuts.
-fn two_fields(seed: u32) {
-    play(Shape {
+fn two_fields(rt: &impl Print, seed: u32) -> io::Result<()> {
+    let shape = Shape {
         seed,
         edits: 1500,
         inserts: 7,
@@ -248,12 +251,13 @@ fn two_fields(seed: u32) {
         narrow: 0,
         span: 400,
         ends: 0,
-    });
+    };
+    play(rt, shape)
 }
 
 // Nearly only allows, and a deny of everything behind them: two fields are enough for too many pieces.
-fn strips(seed: u32) {
-    play(Shape {
+fn strips(rt: &impl Print, seed: u32) -> io::Result<()> {
+    let shape = Shape {
         seed,
         edits: 3000,
         inserts: 8,
@@ -266,11 +270,12 @@ fn strips(seed: u32) {
         narrow: 1,
         span: 20000,
         ends: 0,
-    });
+    };
+    play(rt, shape)
 }
 
-fn five_fields(seed: u32) {
-    play(Shape {
+fn five_fields(rt: &impl Print, seed: u32) -> io::Result<()> {
+    let shape = Shape {
         seed,
         edits: 1500,
         inserts: 7,
@@ -283,12 +288,13 @@ fn five_fields(seed: u32) {
         narrow: 3,
         span: 200,
         ends: 1,
-    });
+    };
+    play(rt, shape)
 }
 
 // Mostly inserts of rules that cut little, up to the limits of both lists.
-fn growth(seed: u32) {
-    play(Shape {
+fn growth(rt: &impl Print, seed: u32) -> io::Result<()> {
+    let shape = Shape {
         seed,
         edits: 1500,
         inserts: 10,
@@ -301,12 +307,13 @@ fn growth(seed: u32) {
         narrow: 7,
         span: 5000,
         ends: 0,
-    });
+    };
+    play(rt, shape)
 }
 
 // Short lists and many bad records; the last rule is often taken out, replaced or followed by another.
-fn rulesRefusal(seed: u32) {
-    play(Shape {
+fn rulesRefusal(rt: &impl Print, seed: u32) -> io::Result<()> {
+    let shape = Shape {
         seed,
         edits: 1500,
         inserts: 5,
@@ -319,18 +326,19 @@ fn rulesRefusal(seed: u32) {
         narrow: 3,
         span: 50,
         ends: 3,
-    });
+    };
+    play(rt, shape)
 }
 
-fn main() {
-    two_fields(1);
-    two_fields(2);
-    strips(6);
-    strips(8);
-    five_fields(11);
-    five_fields(12);
-    growth(21);
-    growth(22);
-    rulesRefusal(31);
-    rulesRefusal(32);
+fn main(rt: HostRuntime) -> io::Result<()> {
+    two_fields(&rt, 1)?;
+    two_fields(&rt, 2)?;
+    strips(&rt, 6)?;
+    strips(&rt, 8)?;
+    five_fields(&rt, 11)?;
+    five_fields(&rt, 12)?;
+    growth(&rt, 21)?;
+    growth(&rt, 22)?;
+    rulesRefusal(&rt, 31)?;
+    rulesRefusal(&rt, 32)
 }
