@@ -31,7 +31,7 @@ pub is_within-requires : goal.is_within-requires
 is_within-requires c =
     let value : Rule = c.rule_at-r.result in
     let region : Region = region_of value.bounds in
-    let is_sound : sound (rule_of value) ≡ true = sym c.is_sound.ensures ∙ not-false _ c.if-not-is_sound.false-raw in
+    let is_sound : sound (rule_of value) ≡ true = search rules in
     let region_long : length region ≡ fields = fits-length widths region (sound_fits (rule_of value) is_sound).0 in
     let region_whole : Whole region = proper_whole highest region (rule_proper (rule_of value) is_sound) in
     let h = range_whole region (c.fields.k - 1) region_whole (omega (arith, region_long)) in
@@ -41,7 +41,7 @@ pub rules-preserved : goal.rules-preserved
 rules-preserved c =
     let value : Rule = c.rule_at-r.result in
     let region : Region = region_of value.bounds in
-    let is_sound : sound (rule_of value) ≡ true = sym c.is_sound.ensures ∙ not-false _ c.if-not-is_sound.false-raw in
+    let is_sound : sound (rule_of value) ≡ true = search rules in
     let region_long : length region ≡ fields = fits-length widths region (sound_fits (rule_of value) is_sound).0 in
     let packet_long : length c.args.p.values ≡ fields = search rules in
     let missed = rw (c.low_at.ensures.0, c.high_at.ensures.0) at (sym c.is_within.ensures ∙ not-true _ c.if-not-is_within.true-raw) in
@@ -61,7 +61,7 @@ pub returns-in-rules : goal.returns-in-rules
 returns-in-rules c =
     let value : Rule = c.rule_at-r.result in
     let region : Region = region_of value.bounds in
-    let is_sound : sound (rule_of value) ≡ true = sym c.is_sound.ensures ∙ not-false _ c.if-not-is_sound.false-raw in
+    let is_sound : sound (rule_of value) ≡ true = search rules in
     let region_long : length region ≡ fields = fits-length widths region (sound_fits (rule_of value) is_sound).0 in
     let packet_long : length c.args.p.values ≡ fields = search rules in
     rw c.fields.invariant.0 (

@@ -1,8 +1,8 @@
 -- `origin` meets its contract. Assumes nothing.
-use borrow.Author.Rules.{rules}
-use Rattle.origins.specs.Steps.{Checked}
 use Rattle.origins.proofs.Calls.{passes_check, traced_small, numbers_short, work_too_short, origin_refused, origin_told}
 use Rattle.origins.proofs.origin.Goals as goal
+
+-- A sheet is told of only once it has passed check.
 
 pub returns-then-numbers-lt-ORIGIN_NUMBERS : goal.returns-then-numbers-lt-ORIGIN_NUMBERS
 returns-then-numbers-lt-ORIGIN_NUMBERS c = numbers_short _ _ _ _ c.if-numbers-lt-ORIGIN_NUMBERS.true
@@ -11,16 +11,11 @@ pub returns-then-work-lt-WORK_BYTES : goal.returns-then-work-lt-WORK_BYTES
 returns-then-work-lt-WORK_BYTES c = work_too_short _ _ _ _ c.if-numbers-lt-ORIGIN_NUMBERS.false c.if-work-lt-WORK_BYTES.true
 
 pub trace_packet-requires : goal.trace_packet-requires
-trace_packet-requires c =
-    let laid : Checked c.args.sheet.now c.in-Parts.layout =
-    passes_check (rw c.in-Parts.is at c.checked.ensures.0) in
-    laid
+trace_packet-requires c = passes_check (rw c.in-Parts.is at c.checked.ensures.0)
 
 pub tell-requires : goal.tell-requires
 tell-requires c =
-    let laid : Checked c.args.sheet.now c.in-Parts.layout =
-    passes_check (rw c.in-Parts.is at c.checked.ensures.0) in
-    (c.if-numbers-lt-ORIGIN_NUMBERS.false, traced_small laid _ _ c.trace_packet.ensures)
+    (c.if-numbers-lt-ORIGIN_NUMBERS.false, traced_small (passes_check (rw c.in-Parts.is at c.checked.ensures.0)) _ _ c.trace_packet.ensures)
 
 pub returns-in-Refused : goal.returns-in-Refused
 returns-in-Refused c =
@@ -28,6 +23,4 @@ returns-in-Refused c =
 
 pub returns-in-Parts : goal.returns-in-Parts
 returns-in-Parts c =
-    let laid : Checked c.args.sheet.now c.in-Parts.layout =
-    passes_check (rw c.in-Parts.is at c.checked.ensures.0) in
-    origin_told _ _ _ _ c.if-numbers-lt-ORIGIN_NUMBERS.false c.if-work-lt-WORK_BYTES.false c.checked.ensures.1 laid c.trace_packet.ensures c.tell.ensures
+    origin_told _ _ _ _ c.if-numbers-lt-ORIGIN_NUMBERS.false c.if-work-lt-WORK_BYTES.false c.checked.ensures.1 (passes_check (rw c.in-Parts.is at c.checked.ensures.0)) c.trace_packet.ensures c.tell.ensures
