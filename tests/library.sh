@@ -1,6 +1,6 @@
 #!/bin/sh
 # Builds the static library and tests it from outside: the C surface and a stored sheet of before W2 as C11 and as C++, then the
-# driver of the second program, which holds every call against the model, with the example program between them. Fails with the
+# driver of the second program, which holds every call against the model, with the two example programs between them. Fails with the
 # first that fails.
 set -eu
 cd "$(dirname "$0")/.."
@@ -16,6 +16,26 @@ tests/x86 run target/surface
 tests/x86 run target/surface++
 tests/x86 run target/before tests/second/data/before_w2.pair
 tests/x86 run target/before++ tests/second/data/before_w2.pair
+
+# The desk example: what it prints, its status, the lengths of both lists, the gate list's bytes and the plant's pair sheet; a refused
+# sheet writes none.
+tests/x86 gcc -std=c11 $flags -o target/desk examples/desk.c $library
+rm -f target/*.gate target/*.cell target/*.pair
+desk() {
+    status=0
+    tests/x86 run target/desk "examples/$1.order" "target/$1.gate" "target/$1.cell" "target/$1.pair" >target/desk.txt || status=$?
+    echo "$2" | cmp - target/desk.txt
+    [ "$status" = "$3" ]
+}
+desk dairy 'gate 29 bytes, cell 137 bytes' 0
+desk plant 'gate 29 bytes, cell 5105 bytes' 0
+desk refused 'refused 6' 1
+for name in dairy:137 plant:5105; do
+    printf '\0\1\0\0\0\0\377\377\377\377\0\0\0\0\377\377\377\377\0\0\377\377\0\0\377\377\0\377\1' | cmp - "target/${name%:*}.gate"
+    [ "$(wc -c <"target/${name%:*}.cell")" = "${name#*:}" ]
+done
+cmp target/plant.pair examples/plant.pair
+for list in gate cell pair; do [ ! -e target/refused.$list ]; done
 
 # The origin example: the packet that README tells of, one that an own rule forwards, one that no rule has, a refused sheet, and
 # words that are no packet or no file.

@@ -3,17 +3,20 @@
 
     python3 tests/plan/make.py
 
-Run it from the project's root, with target/second (tests/second/README.md) and target/foldplover (desk/build) built. The
-sheets go to crates/test_plan/data, the expected output to crates/test_plan/stdout. Most are the dairy example with one thing
-changed.
+Run it from the project's root, with target/second built (tests/second/README.md). The sheets go to crates/test_plan/data,
+the expected output to crates/test_plan/stdout. Most are the dairy example with one thing changed.
 """
 
+import importlib.util
 import pathlib
 import subprocess
 
 FOLDER = pathlib.Path("crates/test_plan")
-TEXT = pathlib.Path("target/test_plan.txt")
 RECORD = 27
+
+spec = importlib.util.spec_from_file_location("make", "examples/make.py")
+make = importlib.util.module_from_spec(spec)
+spec.loader.exec_module(make)
 
 
 def example(name):
@@ -25,9 +28,7 @@ def changed(sheet, place, value):
 
 
 def order(gate, cell):
-    TEXT.write_text("\n".join(["gate", *gate, "cell", *cell]))
-    words = ["tests/x86", "run", "target/foldplover", "order", TEXT, "-o", "-"]
-    return subprocess.run(words, stdout=subprocess.PIPE, check=True).stdout
+    return make.order_sheet("test_plan", "\n".join(["gate", *gate, "cell", *cell]))
 
 
 dairy = example("dairy")

@@ -28,5 +28,5 @@ foldplover show list
 cp "$root/examples/refused.order" .
 tool show refused.order >refused.txt
 foldplover check refused.txt
-cp "$root/examples/plant.txt" .
+cp "$root/examples/labels/plant.txt" .
 foldplover show plant.txt

@@ -1,5 +1,5 @@
 # Open ports: every place, and no heading that says two things.
-cp "$root/examples/plant.txt" .
+cp "$root/examples/labels/plant.txt" .
 quietly apply plant.txt
 foldplover why plant.txt 10.10.4.2 10.30.3.17 tcp
 foldplover why plant.txt 10.10.4.2 10.30.3.17:444 tcp
