@@ -20,7 +20,7 @@ use Rattle.wire.specs.Records.{Fits, boxes_bytes, each_bytes}
 use Rattle.wire.proofs.Numbers.{number_bytes-length, bytes_drop}
 use Rattle.wire.proofs.Records.{proper_fits, boxes_in-length, boxes_bytes-length, boxes_back, boxes_written_back}
 use Rattle.sheet.specs.Sections.{Reading, reading}
-use Rattle.sheet.specs.Orders.{order, order_bytes, lists_in}
+use Rattle.sheet.specs.Orders.{order_bytes, lists_in}
 use Rattle.sheet.specs.Pairs.{group_size, group_boxes, behind, groups_in, group_section, pair_in, group_bytes, groups_bytes, pair_bytes}
 use Rattle.wire.proofs.Counts.{count_back, count_behind, count_written_back, counted, counted_written_back}
 use Rattle.sheet.proofs.Outcomes.{through, readable}

@@ -1,5 +1,5 @@
 -- What writing leaves in a lent buffer (01, Calls and Numbers given back). Assumes nothing.
-use Rattle.std.specs.Prelude.{List, ◌++◌, Bool, ℕ, ◌+◌, ◌-◌, leb, length, take, drop, replicate}
+use Rattle.std.specs.Prelude.{List, ◌++◌, Bool, ℕ, ◌-◌, leb, length, take, drop, replicate}
 use Rattle.policy.specs.Refusals.{Outcome, accepted, refused}
 
 -- Number 1: what is lent is long enough.

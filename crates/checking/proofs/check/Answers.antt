@@ -1,5 +1,4 @@
 -- `check` meets its contract. Assumes nothing.
-use borrow.Author.Rules.{rules}
 use Rattle.checking.proofs.Checking.{check_short, check_no, check_yes}
 use Rattle.checking.proofs.check.Goals as goal
 

@@ -1,5 +1,4 @@
 -- `checked` meets its contract. Assumes nothing.
-use borrow.Author.Rules.{rules}
 use mathlib.Core.Path.{◌∙◌}
 use Rattle.policy.specs.Fields.{work_size}
 use Rattle.promises.proofs.Calls.{zeroed_same}

@@ -1,5 +1,4 @@
 -- `compare` meets its contract, arm by arm. Assumes nothing.
-use borrow.Author.Rules.{rules}
 use borrow.Author.Tests.{not-true, not-false}
 use native.Mathlib.Omega.{arith}
 use mathlib.Core.Path.{refl}
@@ -15,36 +14,27 @@ use Rattle.checking.proofs.compare.Goals as goal
 
 pub draft_all-requires : goal.draft_all-requires
 draft_all-requires c =
-    let sheet : List ℕ =
-    c.args.sheet.now in
-    let read : PairAccepted sheet c.in-Parts.layout =
-    let bytes = bytes_all sheet (λ i. omega (arith, c.type_inv.sheet i)) in
+    let sheet : List ℕ = c.args.sheet.now in
+    let read : PairAccepted sheet c.in-Parts.layout = let bytes = bytes_all sheet (λ i. omega (arith, c.type_inv.sheet i)) in
     pair_accepted c.read_pair.ensures bytes _ c.in-Parts.is in
-    let room : draft_size ≤ length c.args.draft.now =
-    c.requires.0 in
+    let room : draft_size ≤ length c.args.draft.now = c.requires.0 in
     draft_ready read _ _ room c.requires.1
 
 pub is_same-requires : goal.is_same-requires
 is_same-requires c =
-    let sheet : List ℕ =
-    c.args.sheet.now in
-    let read : PairAccepted sheet c.in-Parts.layout =
-    let bytes = bytes_all sheet (λ i. omega (arith, c.type_inv.sheet i)) in
+    let sheet : List ℕ = c.args.sheet.now in
+    let read : PairAccepted sheet c.in-Parts.layout = let bytes = bytes_all sheet (λ i. omega (arith, c.type_inv.sheet i)) in
     pair_accepted c.read_pair.ensures bytes _ c.in-Parts.is in
-    let room : draft_size ≤ length c.args.draft.now =
-    c.requires.0 in
+    let room : draft_size ≤ length c.args.draft.now = c.requires.0 in
     let x = rw c.in-Groups.is at c.draft_all.ensures in
     (omega (arith, read.laid.groups_end, read.laid.whole), λ h. omega (arith, check_long read x room h))
 
 pub returns-then-not-is_same : goal.returns-then-not-is_same
 returns-then-not-is_same c =
-    let sheet : List ℕ =
-    c.args.sheet.now in
-    let read : PairAccepted sheet c.in-Parts.layout =
-    let bytes = bytes_all sheet (λ i. omega (arith, c.type_inv.sheet i)) in
+    let sheet : List ℕ = c.args.sheet.now in
+    let read : PairAccepted sheet c.in-Parts.layout = let bytes = bytes_all sheet (λ i. omega (arith, c.type_inv.sheet i)) in
     pair_accepted c.read_pair.ensures bytes _ c.in-Parts.is in
-    let room : draft_size ≤ length c.args.draft.now =
-    c.requires.0 in
+    let room : draft_size ≤ length c.args.draft.now = c.requires.0 in
     let x = rw c.in-Groups.is at c.draft_all.ensures in
     (check_differs read x room c.is_same.ensures (not-true _ c.if-not-is_same.true-raw), x.beyond)
 
@@ -53,22 +43,17 @@ returns-in-Refused c = (check_refused (pair_refused c.read_pair.ensures _ c.in-R
 
 pub returns-in-TooManyPieces : goal.returns-in-TooManyPieces
 returns-in-TooManyPieces c =
-    let sheet : List ℕ =
-    c.args.sheet.now in
-    let read : PairAccepted sheet c.in-Parts.layout =
-    let bytes = bytes_all sheet (λ i. omega (arith, c.type_inv.sheet i)) in
+    let sheet : List ℕ = c.args.sheet.now in
+    let read : PairAccepted sheet c.in-Parts.layout = let bytes = bytes_all sheet (λ i. omega (arith, c.type_inv.sheet i)) in
     pair_accepted c.read_pair.ensures bytes _ c.in-Parts.is in
     let x = rw c.in-TooManyPieces.is at c.draft_all.ensures in
     (check_six read x, x.beyond)
 
 pub returns-else-not-is_same : goal.returns-else-not-is_same
 returns-else-not-is_same c =
-    let sheet : List ℕ =
-    c.args.sheet.now in
-    let read : PairAccepted sheet c.in-Parts.layout =
-    let bytes = bytes_all sheet (λ i. omega (arith, c.type_inv.sheet i)) in
+    let sheet : List ℕ = c.args.sheet.now in
+    let read : PairAccepted sheet c.in-Parts.layout = let bytes = bytes_all sheet (λ i. omega (arith, c.type_inv.sheet i)) in
     pair_accepted c.read_pair.ensures bytes _ c.in-Parts.is in
-    let room : draft_size ≤ length c.args.draft.now =
-    c.requires.0 in
+    let room : draft_size ≤ length c.args.draft.now = c.requires.0 in
     let x = rw c.in-Groups.is at c.draft_all.ensures in
     (check_passes read x room c.is_same.ensures (not-false _ c.if-not-is_same.false-raw), x.beyond)

@@ -1,5 +1,4 @@
 -- `is_same` meets its contract: the numbers of boxes differ, or the bytes decide. Assumes nothing.
-use borrow.Author.Rules.{rules}
 use native.Mathlib.Omega.{arith}
 use mathlib.Core.Path.{sym, ◌∙◌}
 use mathlib.Core.Bool.{false≢true}

@@ -1,14 +1,7 @@
 -- `same_bytes` meets its contract: the bytes before `i` are the same. Assumes nothing.
-use borrow.Author.Rules.{rules}
-use native.Mathlib.Omega.{arith}
-use mathlib.Core.Path.{◌≡◌, refl, ap, sym, ◌∙◌}
-use mathlib.Core.List.{List}
-use mathlib.Core.Bool.{false≢true}
-use Prim.Native.Nat.{ℕ, ◌+◌, ◌≤◌}
-use lib.ListN.{length, take, drop}
-use Rattle.wire.specs.Numbers.{number_in}
-use Rattle.wire.proofs.Numbers.{bytes_all}
-use Rattle.checking.proofs.Bytes.{same_four, rest_same, same_rest}
+use mathlib.Core.Path.{◌≡◌}
+use Prim.Native.Nat.{◌+◌}
+use lib.ListN.{length, take}
 use Rattle.checking.proofs.same_bytes.Given as goal
 
 abbrev pub invariant-loop-left : goal.invariant-loop-left

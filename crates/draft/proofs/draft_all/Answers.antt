@@ -1,5 +1,4 @@
 -- `draft_all` meets its contract. Assumes nothing.
-use borrow.Author.Rules.{rules}
 use native.Mathlib.Omega.{arith}
 use mathlib.Core.Path.{◌≡◌}
 use mathlib.Core.List.{List}
@@ -18,16 +17,14 @@ slice_bounds-draft_groups-start c = omega (arith, c.requires.records)
 
 pub draft_groups-requires : goal.draft_groups-requires
 draft_groups-requires c =
-    let list : List ℕ =
-    c.args.s.now in
+    let list : List ℕ = c.args.s.now in
     let rules : take (length list - count_size) (drop count_size list) ≡ drop count_size list =
     tail_whole list count_size (omega (arith, c.requires.records)) in
     rw rules (all_ready c.requires)
 
 pub returns : goal.returns
 returns c =
-    let list : List ℕ =
-    c.args.s.now in
+    let list : List ℕ = c.args.s.now in
     let rules : take (length list - count_size) (drop count_size list) ≡ drop count_size list =
     tail_whole list count_size (omega (arith, c.requires.records)) in
     rw rules at c.draft_groups.ensures

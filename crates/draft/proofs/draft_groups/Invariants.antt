@@ -1,9 +1,7 @@
 -- `draft_groups` meets its contract. Assumes nothing.
-use borrow.Author.Rules.{rules}
-use native.Mathlib.Omega.{arith}
 use Prim.Native.Nat.{◌-◌}
 use Rattle.policy.specs.Move.{alone}
-use Rattle.draft.proofs.Turns.{Going, going_first, going_ready, going_count, going_next, going_over, going_done}
+use Rattle.draft.proofs.Turns.{Going}
 use Rattle.draft.proofs.draft_groups.Given as goal
 
 abbrev pub invariant-loop-i : goal.invariant-loop-i

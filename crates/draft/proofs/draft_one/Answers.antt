@@ -14,16 +14,14 @@ use Rattle.draft.proofs.draft_one.Goals as goal
 
 pub returns-then-is_allow : goal.returns-then-is_allow
 returns-then-is_allow c =
-    let ready : Ready c.args.rules.now c.args.i (c.args.i + 1) c.args.draft.now c.args.at c.args.boxes c.args.work.now =
-    c.requires in
+    let ready : Ready c.args.rules.now c.args.i (c.args.i + 1) c.args.draft.now c.args.at c.args.boxes c.args.work.now = c.requires in
     let allows : c.is_allow.result ≡ is_allow (rule_in (drop (record_size * c.args.i) c.args.rules.now)) =
     c.is_allow.ensures ∙ ap (λ (r : Rule). is_allow r) c.rule_at-rule.ensures in
     drafted_allow alone ready (sym allows ∙ c.if-is_allow.true)
 
 pub work_out-requires : goal.work_out-requires
 work_out-requires c =
-    let ready : Ready c.args.rules.now c.args.i (c.args.i + 1) c.args.draft.now c.args.at c.args.boxes c.args.work.now =
-    c.requires in
+    let ready : Ready c.args.rules.now c.args.i (c.args.i + 1) c.args.draft.now c.args.at c.args.boxes c.args.work.now = c.requires in
     (search rules, search rules, ready.rules_sound)
 
 pub overflow_mul-size : goal.overflow_mul-size
@@ -34,30 +32,26 @@ overflow_mul-size c =
 
 pub overflow_add-boxes : goal.overflow_add-boxes
 overflow_add-boxes c =
-    let ready : Ready c.args.rules.now c.args.i (c.args.i + 1) c.args.draft.now c.args.at c.args.boxes c.args.work.now =
-    c.requires in
+    let ready : Ready c.args.rules.now c.args.i (c.args.i + 1) c.args.draft.now c.args.at c.args.boxes c.args.work.now = c.requires in
     let x = rw c.in-Boxes.is at c.work_out.ensures in
     omega (arith, worked_few (omega arith) x, ready.start.few, ready.gate)
 
 pub slice_bounds-append-end : goal.slice_bounds-append-end
 slice_bounds-append-end c =
-    let ready : Ready c.args.rules.now c.args.i (c.args.i + 1) c.args.draft.now c.args.at c.args.boxes c.args.work.now =
-    c.requires in
+    let ready : Ready c.args.rules.now c.args.i (c.args.i + 1) c.args.draft.now c.args.at c.args.boxes c.args.work.now = c.requires in
     let x = rw c.in-Boxes.is at c.work_out.ensures in
     omega (arith, worked_few (omega arith) x, ready.work_room)
 
 pub slice_bounds-append-end-in-Boxes : goal.slice_bounds-append-end-in-Boxes
 slice_bounds-append-end-in-Boxes c =
-    let ready : Ready c.args.rules.now c.args.i (c.args.i + 1) c.args.draft.now c.args.at c.args.boxes c.args.work.now =
-    c.requires in
+    let ready : Ready c.args.rules.now c.args.i (c.args.i + 1) c.args.draft.now c.args.at c.args.boxes c.args.work.now = c.requires in
     let x = rw c.in-Boxes.is at c.work_out.ensures in
     let few = worked_few (omega arith) x in
     simp length-take (omega (arith, few, ready.work_room))
 
 pub append-end-requires : goal.append-end-requires
 append-end-requires c =
-    let ready : Ready c.args.rules.now c.args.i (c.args.i + 1) c.args.draft.now c.args.at c.args.boxes c.args.work.now =
-    c.requires in
+    let ready : Ready c.args.rules.now c.args.i (c.args.i + 1) c.args.draft.now c.args.at c.args.boxes c.args.work.now = c.requires in
     let x = rw c.in-Boxes.is at c.work_out.ensures in
     let few = worked_few (omega arith) x in
     let p = ready in
@@ -65,23 +59,20 @@ append-end-requires c =
 
 pub overflow_add-result : goal.overflow_add-result
 overflow_add-result c =
-    let ready : Ready c.args.rules.now c.args.i (c.args.i + 1) c.args.draft.now c.args.at c.args.boxes c.args.work.now =
-    c.requires in
+    let ready : Ready c.args.rules.now c.args.i (c.args.i + 1) c.args.draft.now c.args.at c.args.boxes c.args.work.now = c.requires in
     let x = rw c.in-Boxes.is at c.work_out.ensures in
     omega (arith, worked_few (omega arith) x, ready.start.few, ready.gate)
 
 pub returns-in-TooMany : goal.returns-in-TooMany
 returns-in-TooMany c =
-    let ready : Ready c.args.rules.now c.args.i (c.args.i + 1) c.args.draft.now c.args.at c.args.boxes c.args.work.now =
-    c.requires in
+    let ready : Ready c.args.rules.now c.args.i (c.args.i + 1) c.args.draft.now c.args.at c.args.boxes c.args.work.now = c.requires in
     let allows : c.is_allow.result ≡ is_allow (rule_in (drop (record_size * c.args.i) c.args.rules.now)) =
     c.is_allow.ensures ∙ ap (λ (r : Rule). is_allow r) c.rule_at-rule.ensures in
     drafted_over alone ready (sym allows ∙ c.if-is_allow.false) (rw c.in-TooMany.is at c.work_out.ensures)
 
 pub returns-in-Boxes : goal.returns-in-Boxes
 returns-in-Boxes c =
-    let ready : Ready c.args.rules.now c.args.i (c.args.i + 1) c.args.draft.now c.args.at c.args.boxes c.args.work.now =
-    c.requires in
+    let ready : Ready c.args.rules.now c.args.i (c.args.i + 1) c.args.draft.now c.args.at c.args.boxes c.args.work.now = c.requires in
     let allows : c.is_allow.result ≡ is_allow (rule_in (drop (record_size * c.args.i) c.args.rules.now)) =
     c.is_allow.ensures ∙ ap (λ (r : Rule). is_allow r) c.rule_at-rule.ensures in
     let x = rw c.in-Boxes.is at c.work_out.ensures in

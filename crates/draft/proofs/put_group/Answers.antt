@@ -1,5 +1,4 @@
 -- `put_group` meets its contract. Assumes nothing.
-use borrow.Author.Rules.{rules}
 use Rattle.draft.proofs.Sheets.{group_put}
 use Rattle.draft.proofs.put_group.Goals as goal
 

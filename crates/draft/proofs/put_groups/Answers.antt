@@ -1,13 +1,11 @@
 -- `put_groups` meets its contract: the groups up to a byte of the draft stand in the sheet. Assumes nothing.
 use borrow.Author.Rules.{rules}
 use native.Mathlib.Omega.{arith}
-use mathlib.Core.Path.{◌≡◌, refl}
-use Prim.Native.Nat.{◌+◌, ◌≤◌}
-use lib.ListN.{length, take, drop, length-take, length-drop}
-use lib.Seq.{sets}
+use mathlib.Core.Path.{refl}
+use Prim.Native.Nat.{◌+◌}
+use lib.ListN.{drop, length-take, length-drop}
 use Rattle.policy.specs.Fields.{count_size}
 use Rattle.wire.proofs.Numbers.{bytes_all}
-use Rattle.draft.specs.Steps.{Laid}
 use Rattle.draft.proofs.Sheets.{groups_next, groups_all, laid_count, laid_next, laid_none}
 use Rattle.draft.proofs.put_groups.Goals as goal
 

@@ -1,14 +1,9 @@
 -- `put_groups` meets its contract: the groups up to a byte of the draft stand in the sheet. Assumes nothing.
-use borrow.Author.Rules.{rules}
-use native.Mathlib.Omega.{arith}
-use mathlib.Core.Path.{◌≡◌, refl}
-use Prim.Native.Nat.{◌+◌, ◌≤◌}
-use lib.ListN.{length, take, drop, length-take, length-drop}
+use mathlib.Core.Path.{◌≡◌}
+use Prim.Native.Nat.{◌≤◌}
+use lib.ListN.{length, take, drop}
 use lib.Seq.{sets}
-use Rattle.policy.specs.Fields.{count_size}
-use Rattle.wire.proofs.Numbers.{bytes_all}
 use Rattle.draft.specs.Steps.{Laid}
-use Rattle.draft.proofs.Sheets.{groups_next, groups_all, laid_count, laid_next, laid_none}
 use Rattle.draft.proofs.put_groups.Given as goal
 
 abbrev pub invariant-loop-left : goal.invariant-loop-left

@@ -1,5 +1,4 @@
 -- `any_allow` meets its contract. Assumes nothing.
-use borrow.Author.Rules.{rules}
 use native.Mathlib.Omega.{arith}
 use mathlib.Core.Path.{◌∙◌}
 use Rattle.edit_groups.proofs.Touched.{no_rule, one_rule}

@@ -21,8 +21,7 @@ returns-then-none_denies c = gathered_kept alone c.requires (rw c.if-none_denies
 
 pub work_out-requires : goal.work_out-requires
 work_out-requires c =
-    let deny : c.none_denies.result ≡ false → NoneDenies c.args.rules.now c.args.place c.args.to false =
-    λ e'. rw e' at c.none_denies.ensures in
+    let deny : c.none_denies.result ≡ false → NoneDenies c.args.rules.now c.args.place c.args.to false = λ e'. rw e' at c.none_denies.ensures in
     let p = c.requires in
     let h = denied_place _ _ _ (deny c.if-none_denies.false) in
     (omega (arith, p.records), p.work_room, rules_sound_front _ _ _ (omega arith) p.rules_sound)
@@ -34,27 +33,23 @@ overflow_add-sum c =
 
 pub returns-then-sum-gt-TOTAL_MOST : goal.returns-then-sum-gt-TOTAL_MOST
 returns-then-sum-gt-TOTAL_MOST c =
-    let deny : c.none_denies.result ≡ false → NoneDenies c.args.rules.now c.args.place c.args.to false =
-    λ e'. rw e' at c.none_denies.ensures in
+    let deny : c.none_denies.result ≡ false → NoneDenies c.args.rules.now c.args.place c.args.to false = λ e'. rw e' at c.none_denies.ensures in
     let x = rw c.in-Boxes.is at c.work_out.ensures in
     gathered_past alone c.requires (deny c.if-none_denies.false) (omega arith) x c.if-sum-gt-TOTAL_MOST.true
 
 pub join_groups-end-requires : goal.join_groups-end-requires
 join_groups-end-requires c =
-    let deny : c.none_denies.result ≡ false → NoneDenies c.args.rules.now c.args.place c.args.to false =
-    λ e'. rw e' at c.none_denies.ensures in
+    let deny : c.none_denies.result ≡ false → NoneDenies c.args.rules.now c.args.place c.args.to false = λ e'. rw e' at c.none_denies.ensures in
     let x = rw c.in-Boxes.is at c.work_out.ensures in
     join_ready alone c.requires (deny c.if-none_denies.false) (omega arith) x c.if-sum-gt-TOTAL_MOST.false (search rules)
 
 pub returns-in-TooMany : goal.returns-in-TooMany
 returns-in-TooMany c =
-    let deny : c.none_denies.result ≡ false → NoneDenies c.args.rules.now c.args.place c.args.to false =
-    λ e'. rw e' at c.none_denies.ensures in
+    let deny : c.none_denies.result ≡ false → NoneDenies c.args.rules.now c.args.place c.args.to false = λ e'. rw e' at c.none_denies.ensures in
     gathered_over alone c.requires (deny c.if-none_denies.false) (rw c.in-TooMany.is at c.work_out.ensures)
 
 pub returns-else-sum-gt-TOTAL_MOST : goal.returns-else-sum-gt-TOTAL_MOST
 returns-else-sum-gt-TOTAL_MOST c =
-    let deny : c.none_denies.result ≡ false → NoneDenies c.args.rules.now c.args.place c.args.to false =
-    λ e'. rw e' at c.none_denies.ensures in
+    let deny : c.none_denies.result ≡ false → NoneDenies c.args.rules.now c.args.place c.args.to false = λ e'. rw e' at c.none_denies.ensures in
     let x = rw c.in-Boxes.is at c.work_out.ensures in
     gathered_join alone c.requires (deny c.if-none_denies.false) (omega arith) x c.if-sum-gt-TOTAL_MOST.false (search rules) c.join_groups-end.ensures

@@ -1,5 +1,4 @@
 -- `join_groups` meets its contract. Assumes nothing.
-use borrow.Author.Rules.{rules}
 use native.Mathlib.Omega.{arith}
 use Rattle.edit_groups.proofs.Joins.{joined_in}
 use Rattle.edit_groups.proofs.join_groups.Goals as goal

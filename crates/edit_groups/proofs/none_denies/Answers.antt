@@ -1,5 +1,4 @@
 -- `none_denies` meets its contract. Assumes nothing.
-use borrow.Author.Rules.{rules}
 use native.Mathlib.Omega.{arith}
 use mathlib.Core.Path.{ap, ◌∙◌}
 use Rattle.policy.specs.Rules.{Rule, is_allow}

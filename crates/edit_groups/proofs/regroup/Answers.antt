@@ -1,5 +1,4 @@
 -- `regroup` meets its contract. Assumes nothing.
-use borrow.Author.Rules.{rules}
 use native.Mathlib.Omega.{arith}
 use mathlib.Core.Path.{sym}
 use Rattle.kept.proofs.Runs.{boxes_none, held_front}

@@ -1,5 +1,4 @@
 -- `is_whole` meets its contract. Assumes nothing.
-use borrow.Author.Rules.{rules}
 use Rattle.edit_list.proofs.is_whole.Goals as goal
 
 pub returns-in-Insert : goal.returns-in-Insert

@@ -1,5 +1,4 @@
 -- `splice` meets its contract: four parts one behind another. Assumes nothing.
-use borrow.Author.Rules.{rules}
 use mathlib.Core.Path.{refl}
 use Rattle.edit_list.proofs.Splices.{splice_put}
 use Rattle.edit_list.proofs.splice.Goals as goal

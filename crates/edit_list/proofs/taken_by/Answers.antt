@@ -1,5 +1,4 @@
 -- `taken_by` meets its contract, change by change. Assumes nothing.
-use borrow.Author.Rules.{rules}
 use native.Mathlib.Omega.{arith}
 use mathlib.Core.Path.{refl}
 use Rattle.edit_list.proofs.taken_by.Goals as goal

@@ -1,5 +1,4 @@
 -- `make_room` meets its contract: one record more, one less, or as many. Assumes nothing.
-use borrow.Author.Rules.{rules}
 use native.Mathlib.Omega.{arith}
 use lib.ListN.{length-take, length-drop}
 use Rattle.edit_sheet.proofs.Rooms.{room_up, room_down, room_kept}

@@ -1,5 +1,4 @@
 -- `put_gate` meets its contract. Assumes nothing.
-use borrow.Author.Rules.{rules}
 use native.Mathlib.Omega.{arith}
 use mathlib.Core.Path.{refl}
 use Rattle.edit_sheet.proofs.Rooms.{gate_room, gate_put}

@@ -1,5 +1,4 @@
 -- `edit` meets its contract. Assumes nothing.
-use borrow.Author.Rules.{rules}
 use lib.ListN.{take}
 use Rattle.policy.specs.Fields.{limits}
 use Rattle.sheet.specs.Pairs.{pair_bytes, pair_size}

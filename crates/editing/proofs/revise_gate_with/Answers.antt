@@ -1,5 +1,4 @@
 -- `revise_gate_with` meets its contract. Assumes nothing.
-use borrow.Author.Rules.{rules}
 use native.Mathlib.Omega.{arith}
 use mathlib.Core.Path.{refl, sym, subst}
 use mathlib.Core.List.{List}
@@ -26,42 +25,30 @@ use Rattle.editing.proofs.revise_gate_with.Goals as goal
 
 pub slice_bounds-change_list-end : goal.slice_bounds-change_list-end
 slice_bounds-change_list-end c =
-    let sheet : List ℕ =
-    c.args.sheet.now in
-    let old : PairLayout =
-    c.args.old in
-    let ready : Revising sheet old c.args.work.now =
-    c.requires.0 in
-    let inside : old.end ≤ length sheet =
-    ready.inside in
+    let sheet : List ℕ = c.args.sheet.now in
+    let old : PairLayout = c.args.old in
+    let ready : Revising sheet old c.args.work.now = c.requires.0 in
+    let inside : old.end ≤ length sheet = ready.inside in
     let read : PairAccepted (take old.end sheet) old =
     pair_accepted ready.reads (bytes_take old.end sheet (bytes_all sheet (λ i. omega (arith, c.slice_known-1.given i)))) old refl in
     (gate_there_lem sheet read inside).2
 
 pub slice_bounds-change_list-end-2 : goal.slice_bounds-change_list-end-2
 slice_bounds-change_list-end-2 c =
-    let sheet : List ℕ =
-    c.args.sheet.now in
-    let old : PairLayout =
-    c.args.old in
-    let ready : Revising sheet old c.args.work.now =
-    c.requires.0 in
-    let inside : old.end ≤ length sheet =
-    ready.inside in
+    let sheet : List ℕ = c.args.sheet.now in
+    let old : PairLayout = c.args.old in
+    let ready : Revising sheet old c.args.work.now = c.requires.0 in
+    let inside : old.end ≤ length sheet = ready.inside in
     let read : PairAccepted (take old.end sheet) old =
     pair_accepted ready.reads (bytes_take old.end sheet (bytes_all sheet (λ i. omega (arith, c.slice_known-1.given i)))) old refl in
     simp length-take (omega (arith, (gate_there_lem sheet read inside).2))
 
 pub change_list-requires : goal.change_list-requires
 change_list-requires c =
-    let sheet : List ℕ =
-    c.args.sheet.now in
-    let old : PairLayout =
-    c.args.old in
-    let ready : Revising sheet old c.args.work.now =
-    c.requires.0 in
-    let inside : old.end ≤ length sheet =
-    ready.inside in
+    let sheet : List ℕ = c.args.sheet.now in
+    let old : PairLayout = c.args.old in
+    let ready : Revising sheet old c.args.work.now = c.requires.0 in
+    let inside : old.end ≤ length sheet = ready.inside in
     let read : PairAccepted (take old.end sheet) old =
     pair_accepted ready.reads (bytes_take old.end sheet (bytes_all sheet (λ i. omega (arith, c.slice_known-1.given i)))) old refl in
     let h = gate_there_lem sheet read inside in
@@ -70,160 +57,102 @@ change_list-requires c =
 
 pub slice_bounds-read_list-end : goal.slice_bounds-read_list-end
 slice_bounds-read_list-end c =
-    let sheet : List ℕ =
-    c.args.sheet.now in
-    let place : ℕ =
-    c.args.request.place in
-    let change : Change =
-    c.args.request.change in
-    let record-bytes : List ℕ =
-    c.args.new.now in
-    let old : PairLayout =
-    c.args.old in
-    let ready : Revising sheet old c.args.work.now =
-    c.requires.0 in
-    let inside : old.end ≤ length sheet =
-    ready.inside in
+    let sheet : List ℕ = c.args.sheet.now in
+    let place : ℕ = c.args.request.place in
+    let change : Change = c.args.request.change in
+    let record-bytes : List ℕ = c.args.new.now in
+    let old : PairLayout = c.args.old in
+    let ready : Revising sheet old c.args.work.now = c.requires.0 in
+    let inside : old.end ≤ length sheet = ready.inside in
     let read : PairAccepted (take old.end sheet) old =
     pair_accepted ready.reads (bytes_take old.end sheet (bytes_all sheet (λ i. omega (arith, c.slice_known-1.given i)))) old refl in
-    let new : Each Byte record-bytes =
-    bytes_all record-bytes (λ i. omega (arith, c.type_inv.new i)) in
-    let end : ℕ =
-    c.in-Length.end in
-    let made : List ℕ =
-    c.change_list.new.out in
+    let new : Each Byte record-bytes = bytes_all record-bytes (λ i. omega (arith, c.type_inv.new i)) in
+    let end : ℕ = c.in-Length.end in
+    let made : List ℕ = c.change_list.new.out in
     let changed : ListChanged (changed_bytes (list_bytes (rules_of old.order.gate (take old.end sheet))) old.order.gate place change record-bytes) c.args.out.now (Length end) made =
     rw (c.in-Length.is, gate_bytes_lem sheet read inside) at c.change_list.ensures in
-    let ends : end ≤ length c.args.out.now =
-    gate_end_lem sheet read inside place change record-bytes new changed c.requires.2 in
+    let ends : end ≤ length c.args.out.now = gate_end_lem sheet read inside place change record-bytes new changed c.requires.2 in
     let h = ends in omega arith
 
 pub slice_bounds-read_list-end-in-Length : goal.slice_bounds-read_list-end-in-Length
 slice_bounds-read_list-end-in-Length c =
-    let sheet : List ℕ =
-    c.args.sheet.now in
-    let place : ℕ =
-    c.args.request.place in
-    let change : Change =
-    c.args.request.change in
-    let record-bytes : List ℕ =
-    c.args.new.now in
-    let old : PairLayout =
-    c.args.old in
-    let ready : Revising sheet old c.args.work.now =
-    c.requires.0 in
-    let inside : old.end ≤ length sheet =
-    ready.inside in
+    let sheet : List ℕ = c.args.sheet.now in
+    let place : ℕ = c.args.request.place in
+    let change : Change = c.args.request.change in
+    let record-bytes : List ℕ = c.args.new.now in
+    let old : PairLayout = c.args.old in
+    let ready : Revising sheet old c.args.work.now = c.requires.0 in
+    let inside : old.end ≤ length sheet = ready.inside in
     let read : PairAccepted (take old.end sheet) old =
     pair_accepted ready.reads (bytes_take old.end sheet (bytes_all sheet (λ i. omega (arith, c.slice_known-1.given i)))) old refl in
-    let new : Each Byte record-bytes =
-    bytes_all record-bytes (λ i. omega (arith, c.type_inv.new i)) in
-    let end : ℕ =
-    c.in-Length.end in
-    let made : List ℕ =
-    c.change_list.new.out in
+    let new : Each Byte record-bytes = bytes_all record-bytes (λ i. omega (arith, c.type_inv.new i)) in
+    let end : ℕ = c.in-Length.end in
+    let made : List ℕ = c.change_list.new.out in
     let changed : ListChanged (changed_bytes (list_bytes (rules_of old.order.gate (take old.end sheet))) old.order.gate place change record-bytes) c.args.out.now (Length end) made =
     rw (c.in-Length.is, gate_bytes_lem sheet read inside) at c.change_list.ensures in
-    let ends : end ≤ length c.args.out.now =
-    gate_end_lem sheet read inside place change record-bytes new changed c.requires.2 in
+    let ends : end ≤ length c.args.out.now = gate_end_lem sheet read inside place change record-bytes new changed c.requires.2 in
     let h = ends in simp length-take (omega arith)
 
 pub slice_bounds-find_around-end-in-Rules : goal.slice_bounds-find_around-end-in-Rules
 slice_bounds-find_around-end-in-Rules c =
-    let sheet : List ℕ =
-    c.args.sheet.now in
-    let old : PairLayout =
-    c.args.old in
-    let ready : Revising sheet old c.args.work.now =
-    c.requires.0 in
-    let inside : old.end ≤ length sheet =
-    ready.inside in
+    let sheet : List ℕ = c.args.sheet.now in
+    let old : PairLayout = c.args.old in
+    let ready : Revising sheet old c.args.work.now = c.requires.0 in
+    let inside : old.end ≤ length sheet = ready.inside in
     simp length-take (omega (arith, inside))
 
 pub slice_bounds-find_around-end-in-Rules-2 : goal.slice_bounds-find_around-end-in-Rules-2
 slice_bounds-find_around-end-in-Rules-2 c =
-    let sheet : List ℕ =
-    c.args.sheet.now in
-    let place : ℕ =
-    c.args.request.place in
-    let change : Change =
-    c.args.request.change in
-    let record-bytes : List ℕ =
-    c.args.new.now in
-    let old : PairLayout =
-    c.args.old in
-    let ready : Revising sheet old c.args.work.now =
-    c.requires.0 in
-    let inside : old.end ≤ length sheet =
-    ready.inside in
+    let sheet : List ℕ = c.args.sheet.now in
+    let place : ℕ = c.args.request.place in
+    let change : Change = c.args.request.change in
+    let record-bytes : List ℕ = c.args.new.now in
+    let old : PairLayout = c.args.old in
+    let ready : Revising sheet old c.args.work.now = c.requires.0 in
+    let inside : old.end ≤ length sheet = ready.inside in
     let read : PairAccepted (take old.end sheet) old =
     pair_accepted ready.reads (bytes_take old.end sheet (bytes_all sheet (λ i. omega (arith, c.slice_known-1.given i)))) old refl in
-    let new : Each Byte record-bytes =
-    bytes_all record-bytes (λ i. omega (arith, c.type_inv.new i)) in
-    let end : ℕ =
-    c.in-Length.end in
-    let made : List ℕ =
-    c.change_list.new.out in
+    let new : Each Byte record-bytes = bytes_all record-bytes (λ i. omega (arith, c.type_inv.new i)) in
+    let end : ℕ = c.in-Length.end in
+    let made : List ℕ = c.change_list.new.out in
     let changed : ListChanged (changed_bytes (list_bytes (rules_of old.order.gate (take old.end sheet))) old.order.gate place change record-bytes) c.args.out.now (Length end) made =
     rw (c.in-Length.is, gate_bytes_lem sheet read inside) at c.change_list.ensures in
-    let ends : end ≤ length c.args.out.now =
-    gate_end_lem sheet read inside place change record-bytes new changed c.requires.2 in
+    let ends : end ≤ length c.args.out.now = gate_end_lem sheet read inside place change record-bytes new changed c.requires.2 in
     let h = ends in omega arith
 
 pub slice_bounds-find_around-end-in-Rules-3 : goal.slice_bounds-find_around-end-in-Rules-3
 slice_bounds-find_around-end-in-Rules-3 c =
-    let sheet : List ℕ =
-    c.args.sheet.now in
-    let place : ℕ =
-    c.args.request.place in
-    let change : Change =
-    c.args.request.change in
-    let record-bytes : List ℕ =
-    c.args.new.now in
-    let old : PairLayout =
-    c.args.old in
-    let ready : Revising sheet old c.args.work.now =
-    c.requires.0 in
-    let inside : old.end ≤ length sheet =
-    ready.inside in
+    let sheet : List ℕ = c.args.sheet.now in
+    let place : ℕ = c.args.request.place in
+    let change : Change = c.args.request.change in
+    let record-bytes : List ℕ = c.args.new.now in
+    let old : PairLayout = c.args.old in
+    let ready : Revising sheet old c.args.work.now = c.requires.0 in
+    let inside : old.end ≤ length sheet = ready.inside in
     let read : PairAccepted (take old.end sheet) old =
     pair_accepted ready.reads (bytes_take old.end sheet (bytes_all sheet (λ i. omega (arith, c.slice_known-1.given i)))) old refl in
-    let new : Each Byte record-bytes =
-    bytes_all record-bytes (λ i. omega (arith, c.type_inv.new i)) in
-    let end : ℕ =
-    c.in-Length.end in
-    let made : List ℕ =
-    c.change_list.new.out in
+    let new : Each Byte record-bytes = bytes_all record-bytes (λ i. omega (arith, c.type_inv.new i)) in
+    let end : ℕ = c.in-Length.end in
+    let made : List ℕ = c.change_list.new.out in
     let changed : ListChanged (changed_bytes (list_bytes (rules_of old.order.gate (take old.end sheet))) old.order.gate place change record-bytes) c.args.out.now (Length end) made =
     rw (c.in-Length.is, gate_bytes_lem sheet read inside) at c.change_list.ensures in
-    let ends : end ≤ length c.args.out.now =
-    gate_end_lem sheet read inside place change record-bytes new changed c.requires.2 in
+    let ends : end ≤ length c.args.out.now = gate_end_lem sheet read inside place change record-bytes new changed c.requires.2 in
     let h = ends in simp length-take (omega arith)
 
 pub find_around-around-requires : goal.find_around-around-requires
 find_around-around-requires c =
-    let sheet : List ℕ =
-    c.args.sheet.now in
-    let place : ℕ =
-    c.args.request.place in
-    let change : Change =
-    c.args.request.change in
-    let record-bytes : List ℕ =
-    c.args.new.now in
-    let old : PairLayout =
-    c.args.old in
-    let ready : Revising sheet old c.args.work.now =
-    c.requires.0 in
-    let inside : old.end ≤ length sheet =
-    ready.inside in
+    let sheet : List ℕ = c.args.sheet.now in
+    let place : ℕ = c.args.request.place in
+    let change : Change = c.args.request.change in
+    let record-bytes : List ℕ = c.args.new.now in
+    let old : PairLayout = c.args.old in
+    let ready : Revising sheet old c.args.work.now = c.requires.0 in
+    let inside : old.end ≤ length sheet = ready.inside in
     let read : PairAccepted (take old.end sheet) old =
     pair_accepted ready.reads (bytes_take old.end sheet (bytes_all sheet (λ i. omega (arith, c.slice_known-1.given i)))) old refl in
-    let new : Each Byte record-bytes =
-    bytes_all record-bytes (λ i. omega (arith, c.type_inv.new i)) in
-    let end : ℕ =
-    c.in-Length.end in
-    let made : List ℕ =
-    c.change_list.new.out in
+    let new : Each Byte record-bytes = bytes_all record-bytes (λ i. omega (arith, c.type_inv.new i)) in
+    let end : ℕ = c.in-Length.end in
+    let made : List ℕ = c.change_list.new.out in
     let changed : ListChanged (changed_bytes (list_bytes (rules_of old.order.gate (take old.end sheet))) old.order.gate place change record-bytes) c.args.out.now (Length end) made =
     rw (c.in-Length.is, gate_bytes_lem sheet read inside) at c.change_list.ensures in
     let accepted : ListAccepted limits.gate (take end made) c.in-Rules.count c.in-Rules.next =
@@ -232,88 +161,56 @@ find_around-around-requires c =
 
 pub slice_bounds-regroup-end : goal.slice_bounds-regroup-end
 slice_bounds-regroup-end c =
-    let sheet : List ℕ =
-    c.args.sheet.now in
-    let place : ℕ =
-    c.args.request.place in
-    let change : Change =
-    c.args.request.change in
-    let record-bytes : List ℕ =
-    c.args.new.now in
-    let old : PairLayout =
-    c.args.old in
-    let ready : Revising sheet old c.args.work.now =
-    c.requires.0 in
-    let inside : old.end ≤ length sheet =
-    ready.inside in
+    let sheet : List ℕ = c.args.sheet.now in
+    let place : ℕ = c.args.request.place in
+    let change : Change = c.args.request.change in
+    let record-bytes : List ℕ = c.args.new.now in
+    let old : PairLayout = c.args.old in
+    let ready : Revising sheet old c.args.work.now = c.requires.0 in
+    let inside : old.end ≤ length sheet = ready.inside in
     let read : PairAccepted (take old.end sheet) old =
     pair_accepted ready.reads (bytes_take old.end sheet (bytes_all sheet (λ i. omega (arith, c.slice_known-1.given i)))) old refl in
-    let new : Each Byte record-bytes =
-    bytes_all record-bytes (λ i. omega (arith, c.type_inv.new i)) in
-    let end : ℕ =
-    c.in-Length.end in
-    let made : List ℕ =
-    c.change_list.new.out in
+    let new : Each Byte record-bytes = bytes_all record-bytes (λ i. omega (arith, c.type_inv.new i)) in
+    let end : ℕ = c.in-Length.end in
+    let made : List ℕ = c.change_list.new.out in
     let changed : ListChanged (changed_bytes (list_bytes (rules_of old.order.gate (take old.end sheet))) old.order.gate place change record-bytes) c.args.out.now (Length end) made =
     rw (c.in-Length.is, gate_bytes_lem sheet read inside) at c.change_list.ensures in
-    let ends : end ≤ length c.args.out.now =
-    gate_end_lem sheet read inside place change record-bytes new changed c.requires.2 in
+    let ends : end ≤ length c.args.out.now = gate_end_lem sheet read inside place change record-bytes new changed c.requires.2 in
     let h = ends in omega arith
 
 pub slice_bounds-regroup-end-in-Rules : goal.slice_bounds-regroup-end-in-Rules
 slice_bounds-regroup-end-in-Rules c =
-    let sheet : List ℕ =
-    c.args.sheet.now in
-    let place : ℕ =
-    c.args.request.place in
-    let change : Change =
-    c.args.request.change in
-    let record-bytes : List ℕ =
-    c.args.new.now in
-    let old : PairLayout =
-    c.args.old in
-    let ready : Revising sheet old c.args.work.now =
-    c.requires.0 in
-    let inside : old.end ≤ length sheet =
-    ready.inside in
+    let sheet : List ℕ = c.args.sheet.now in
+    let place : ℕ = c.args.request.place in
+    let change : Change = c.args.request.change in
+    let record-bytes : List ℕ = c.args.new.now in
+    let old : PairLayout = c.args.old in
+    let ready : Revising sheet old c.args.work.now = c.requires.0 in
+    let inside : old.end ≤ length sheet = ready.inside in
     let read : PairAccepted (take old.end sheet) old =
     pair_accepted ready.reads (bytes_take old.end sheet (bytes_all sheet (λ i. omega (arith, c.slice_known-1.given i)))) old refl in
-    let new : Each Byte record-bytes =
-    bytes_all record-bytes (λ i. omega (arith, c.type_inv.new i)) in
-    let end : ℕ =
-    c.in-Length.end in
-    let made : List ℕ =
-    c.change_list.new.out in
+    let new : Each Byte record-bytes = bytes_all record-bytes (λ i. omega (arith, c.type_inv.new i)) in
+    let end : ℕ = c.in-Length.end in
+    let made : List ℕ = c.change_list.new.out in
     let changed : ListChanged (changed_bytes (list_bytes (rules_of old.order.gate (take old.end sheet))) old.order.gate place change record-bytes) c.args.out.now (Length end) made =
     rw (c.in-Length.is, gate_bytes_lem sheet read inside) at c.change_list.ensures in
-    let ends : end ≤ length c.args.out.now =
-    gate_end_lem sheet read inside place change record-bytes new changed c.requires.2 in
+    let ends : end ≤ length c.args.out.now = gate_end_lem sheet read inside place change record-bytes new changed c.requires.2 in
     let h = ends in simp length-take (omega arith)
 
 pub regroup-requires : goal.regroup-requires
 regroup-requires c =
-    let sheet : List ℕ =
-    c.args.sheet.now in
-    let place : ℕ =
-    c.args.request.place in
-    let change : Change =
-    c.args.request.change in
-    let record-bytes : List ℕ =
-    c.args.new.now in
-    let old : PairLayout =
-    c.args.old in
-    let ready : Revising sheet old c.args.work.now =
-    c.requires.0 in
-    let inside : old.end ≤ length sheet =
-    ready.inside in
+    let sheet : List ℕ = c.args.sheet.now in
+    let place : ℕ = c.args.request.place in
+    let change : Change = c.args.request.change in
+    let record-bytes : List ℕ = c.args.new.now in
+    let old : PairLayout = c.args.old in
+    let ready : Revising sheet old c.args.work.now = c.requires.0 in
+    let inside : old.end ≤ length sheet = ready.inside in
     let read : PairAccepted (take old.end sheet) old =
     pair_accepted ready.reads (bytes_take old.end sheet (bytes_all sheet (λ i. omega (arith, c.slice_known-1.given i)))) old refl in
-    let new : Each Byte record-bytes =
-    bytes_all record-bytes (λ i. omega (arith, c.type_inv.new i)) in
-    let end : ℕ =
-    c.in-Length.end in
-    let made : List ℕ =
-    c.change_list.new.out in
+    let new : Each Byte record-bytes = bytes_all record-bytes (λ i. omega (arith, c.type_inv.new i)) in
+    let end : ℕ = c.in-Length.end in
+    let made : List ℕ = c.change_list.new.out in
     let changed : ListChanged (changed_bytes (list_bytes (rules_of old.order.gate (take old.end sheet))) old.order.gate place change record-bytes) c.args.out.now (Length end) made =
     rw (c.in-Length.is, gate_bytes_lem sheet read inside) at c.change_list.ensures in
     let accepted : ListAccepted limits.gate (take end made) c.in-Rules.count c.in-Rules.next =
@@ -322,52 +219,34 @@ regroup-requires c =
 
 pub returns-in-Refused : goal.returns-in-Refused
 returns-in-Refused c =
-    let sheet : List ℕ =
-    c.args.sheet.now in
-    let old : PairLayout =
-    c.args.old in
-    let place : ℕ =
-    c.args.request.place in
-    let change : Change =
-    c.args.request.change in
-    let record-bytes : List ℕ =
-    c.args.new.now in
-    let ready : Revising sheet old c.args.work.now =
-    c.requires.0 in
-    let inside : old.end ≤ length sheet =
-    ready.inside in
+    let sheet : List ℕ = c.args.sheet.now in
+    let old : PairLayout = c.args.old in
+    let place : ℕ = c.args.request.place in
+    let change : Change = c.args.request.change in
+    let record-bytes : List ℕ = c.args.new.now in
+    let ready : Revising sheet old c.args.work.now = c.requires.0 in
+    let inside : old.end ≤ length sheet = ready.inside in
     let read : PairAccepted (take old.end sheet) old =
     pair_accepted ready.reads (bytes_take old.end sheet (bytes_all sheet (λ i. omega (arith, c.slice_known-1.given i)))) old refl in
-    let new : Each Byte record-bytes =
-    bytes_all record-bytes (λ i. omega (arith, c.type_inv.new i)) in
+    let new : Each Byte record-bytes = bytes_all record-bytes (λ i. omega (arith, c.type_inv.new i)) in
     let x = rw (c.in-Refused.is, gate_bytes_lem sheet read inside) at c.change_list.ensures in
     at_which sheet old.end c.args.request record-bytes 0 c.requires.1
     (refuses pair_bytes pair_size _ sheet c.args.work.now c.args.work.now _ (gate_refused sheet read inside place change record-bytes new c.in-Refused.f x) refl)
 
 pub returns-in-Refused-read_list : goal.returns-in-Refused-read_list
 returns-in-Refused-read_list c =
-    let sheet : List ℕ =
-    c.args.sheet.now in
-    let old : PairLayout =
-    c.args.old in
-    let place : ℕ =
-    c.args.request.place in
-    let change : Change =
-    c.args.request.change in
-    let record-bytes : List ℕ =
-    c.args.new.now in
-    let ready : Revising sheet old c.args.work.now =
-    c.requires.0 in
-    let inside : old.end ≤ length sheet =
-    ready.inside in
+    let sheet : List ℕ = c.args.sheet.now in
+    let old : PairLayout = c.args.old in
+    let place : ℕ = c.args.request.place in
+    let change : Change = c.args.request.change in
+    let record-bytes : List ℕ = c.args.new.now in
+    let ready : Revising sheet old c.args.work.now = c.requires.0 in
+    let inside : old.end ≤ length sheet = ready.inside in
     let read : PairAccepted (take old.end sheet) old =
     pair_accepted ready.reads (bytes_take old.end sheet (bytes_all sheet (λ i. omega (arith, c.slice_known-1.given i)))) old refl in
-    let new : Each Byte record-bytes =
-    bytes_all record-bytes (λ i. omega (arith, c.type_inv.new i)) in
-    let end : ℕ =
-    c.in-Length.end in
-    let made : List ℕ =
-    c.change_list.new.out in
+    let new : Each Byte record-bytes = bytes_all record-bytes (λ i. omega (arith, c.type_inv.new i)) in
+    let end : ℕ = c.in-Length.end in
+    let made : List ℕ = c.change_list.new.out in
     let changed : ListChanged (changed_bytes (list_bytes (rules_of old.order.gate (take old.end sheet))) old.order.gate place change record-bytes) c.args.out.now (Length end) made =
     rw (c.in-Length.is, gate_bytes_lem sheet read inside) at c.change_list.ensures in
     at_which sheet old.end c.args.request record-bytes 0 c.requires.1
@@ -376,28 +255,18 @@ returns-in-Refused-read_list c =
 
 pub returns-in-Rules : goal.returns-in-Rules
 returns-in-Rules c =
-    let sheet : List ℕ =
-    c.args.sheet.now in
-    let old : PairLayout =
-    c.args.old in
-    let place : ℕ =
-    c.args.request.place in
-    let change : Change =
-    c.args.request.change in
-    let record-bytes : List ℕ =
-    c.args.new.now in
-    let ready : Revising sheet old c.args.work.now =
-    c.requires.0 in
-    let inside : old.end ≤ length sheet =
-    ready.inside in
+    let sheet : List ℕ = c.args.sheet.now in
+    let old : PairLayout = c.args.old in
+    let place : ℕ = c.args.request.place in
+    let change : Change = c.args.request.change in
+    let record-bytes : List ℕ = c.args.new.now in
+    let ready : Revising sheet old c.args.work.now = c.requires.0 in
+    let inside : old.end ≤ length sheet = ready.inside in
     let read : PairAccepted (take old.end sheet) old =
     pair_accepted ready.reads (bytes_take old.end sheet (bytes_all sheet (λ i. omega (arith, c.slice_known-1.given i)))) old refl in
-    let new : Each Byte record-bytes =
-    bytes_all record-bytes (λ i. omega (arith, c.type_inv.new i)) in
-    let end : ℕ =
-    c.in-Length.end in
-    let made : List ℕ =
-    c.change_list.new.out in
+    let new : Each Byte record-bytes = bytes_all record-bytes (λ i. omega (arith, c.type_inv.new i)) in
+    let end : ℕ = c.in-Length.end in
+    let made : List ℕ = c.change_list.new.out in
     let changed : ListChanged (changed_bytes (list_bytes (rules_of old.order.gate (take old.end sheet))) old.order.gate place change record-bytes) c.args.out.now (Length end) made =
     rw (c.in-Length.is, gate_bytes_lem sheet read inside) at c.change_list.ensures in
     let accepted : ListAccepted limits.gate (take end made) c.in-Rules.count c.in-Rules.next =

@@ -1,10 +1,8 @@
 -- `is_inside` meets its contract: the loop's invariant says what the count of misses tells of the fields passed. Assumes nothing.
-use Rattle.std.proofs.Common.{◌≡◌, ◌-◌, ◌≤◌, length, ◌∙◌, arith, rules}
+use Rattle.std.proofs.Common.{◌≡◌, ◌-◌, ◌≤◌, length}
 use Rattle.policy.specs.Fields.{fields}
 use Rattle.policy.specs.Values.{region_of}
-use Rattle.policy.proofs.Values.{ranges-length}
-use Rattle.filter.proofs.Insides.{range_whole}
-use Rattle.filter.proofs.Misses.{Passed, passed_first, passed_next, passed_last}
+use Rattle.filter.proofs.Misses.{Passed}
 use Rattle.filter.proofs.is_inside.Given as goal
 
 abbrev pub invariant-loop-k : goal.invariant-loop-k

@@ -1,5 +1,5 @@
 -- `is_within` meets its contract. Assumes nothing.
-use Rattle.std.proofs.Common.{arith, rules}
+use Rattle.std.proofs.Common.{arith}
 use Rattle.policy.specs.Ranges.{range}
 use Rattle.filter.proofs.Insides.{wrapped_within}
 use Rattle.filter.proofs.is_within.Goals as goal

@@ -1,5 +1,5 @@
 -- `miss` meets its contract. Assumes nothing.
-use Rattle.std.proofs.Common.{sym, refl, ◌∙◌, arith, rules}
+use Rattle.std.proofs.Common.{sym, refl, ◌∙◌, arith}
 use Rattle.filter.proofs.miss.Goals as goal
 
 pub returns-then-is_within : goal.returns-then-is_within

@@ -1,18 +1,17 @@
 -- `scan` meets its contract: the outer invariant says what is left of the search, the inner one that every field passed is in
 -- its range, whatever the order. Assumes nothing.
-use Rattle.std.proofs.Common.{◌≡◌, ℕ, ◌+◌, ◌-◌, ◌<◌, ◌≤◌, true, false, length, get_or, sym, refl, ◌∙◌, subst, arith, rules}
+use Rattle.std.proofs.Common.{◌≡◌, ◌-◌, true, length, sym, refl, ◌∙◌, arith, rules}
 use borrow.Author.Tests.{not-true, not-false}
 use Rattle.lists.proofs.Both.{above_more}
 use Rattle.policy.specs.Fields.{fields, widths, highest}
-use Rattle.policy.specs.Ranges.{Region, Whole, within}
+use Rattle.policy.specs.Ranges.{Region, Whole}
 use Rattle.policy.specs.Rules.{sound}
 use Rattle.policy.specs.Values.{region_of, rule_of}
-use Rattle.policy.specs.Steps.{range_at}
 use Rattle.policy.specs.declared.Rule.{Rule}
 use Rattle.policy.proofs.Moves.{rule_proper, proper_whole}
 use Rattle.wire.proofs.Records.{sound_fits, fits-length}
 use Rattle.filter.proofs.Insides.{InRange, range_whole, outside_at, all_inside}
-use Rattle.filter.proofs.Lookups.{Left, left_all, bad_rule, rule_fits, rule_misses, none_fits_lem}
+use Rattle.filter.proofs.Lookups.{left_all, bad_rule, rule_fits, rule_misses, none_fits_lem}
 use Rattle.filter.proofs.scan.Goals as goal
 
 pub rules-init : goal.rules-init
@@ -45,8 +44,7 @@ rules-preserved c =
     let region_long : length region ≡ fields = fits-length widths region (sound_fits (rule_of value) is_sound).0 in
     let packet_long : length c.args.p.values ≡ fields = search rules in
     let missed = rw (c.low_at.ensures.0, c.high_at.ensures.0) at (sym c.is_within.ensures ∙ not-true _ c.if-not-is_within.true-raw) in
-    let outside = outside_at c.args.p.values region (c.fields.k - 1) (omega (arith, packet_long)) (omega (arith, region_long)) missed in
-    (
+    let outside = outside_at c.args.p.values region (c.fields.k - 1) (omega (arith, packet_long)) (omega (arith, region_long)) missed in (
       omega (arith, c.rules-test.true),
       rule_misses c.args.p.values c.args.list.now c.args.count c.rules.i c.rules.invariant.1 c.rules-test.true (rule_of value) c.rule_at-r.ensures is_sound outside,
     )

@@ -1,5 +1,4 @@
 -- `answer_number` meets its contract, case by case. Assumes nothing.
-use borrow.Author.Rules.{rules}
 use mathlib.Core.Path.{◌∙◌}
 use native.Mathlib.Omega.{arith}
 use Rattle.foldplover.proofs.Codes.{length_small, refused_number}

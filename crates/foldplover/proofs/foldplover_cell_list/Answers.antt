@@ -9,13 +9,11 @@ use Rattle.foldplover.proofs.foldplover_cell_list.Goals as goal
 
 pub answer_number-requires : goal.answer_number-requires
 answer_number-requires c =
-    let plain : Plain (said c.cell_list.result) =
-    call_plain cell_bytes cell_list_size _ _ _ _ c.cell_list.ensures (search rules) (omega arith) in
+    let plain : Plain (said c.cell_list.result) = call_plain cell_bytes cell_list_size _ _ _ _ c.cell_list.ensures (search rules) (omega arith) in
     plain
 
 pub returns : goal.returns
 returns c =
-    let plain : Plain (said c.cell_list.result) =
-    call_plain cell_bytes cell_list_size _ _ _ _ c.cell_list.ensures (search rules) (omega arith) in
+    let plain : Plain (said c.cell_list.result) = call_plain cell_bytes cell_list_size _ _ _ _ c.cell_list.ensures (search rules) (omega arith) in
     let k = c.cell_list in
     record { answer = k.result; below = k.ensures; number = c.answer_number.ensures; plain = plain }

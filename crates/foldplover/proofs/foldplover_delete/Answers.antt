@@ -9,13 +9,11 @@ use Rattle.foldplover.proofs.foldplover_delete.Goals as goal
 
 pub answer_number-requires : goal.answer_number-requires
 answer_number-requires c =
-    let plain : Plain (said c.edit.result) =
-    call_plain pair_bytes pair_size _ _ _ _ c.edit.ensures (search rules) (omega arith) in
+    let plain : Plain (said c.edit.result) = call_plain pair_bytes pair_size _ _ _ _ c.edit.ensures (search rules) (omega arith) in
     plain
 
 pub returns : goal.returns
 returns c =
-    let plain : Plain (said c.edit.result) =
-    call_plain pair_bytes pair_size _ _ _ _ c.edit.ensures (search rules) (omega arith) in
+    let plain : Plain (said c.edit.result) = call_plain pair_bytes pair_size _ _ _ _ c.edit.ensures (search rules) (omega arith) in
     let k = c.edit in
     record { answer = k.result; below = k.ensures; number = c.answer_number.ensures; plain = plain }

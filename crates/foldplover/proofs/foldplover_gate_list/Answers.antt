@@ -9,13 +9,11 @@ use Rattle.foldplover.proofs.foldplover_gate_list.Goals as goal
 
 pub answer_number-requires : goal.answer_number-requires
 answer_number-requires c =
-    let plain : Plain (said c.gate_list.result) =
-    call_plain gate_bytes gate_list_size _ _ _ _ c.gate_list.ensures (search rules) (omega arith) in
+    let plain : Plain (said c.gate_list.result) = call_plain gate_bytes gate_list_size _ _ _ _ c.gate_list.ensures (search rules) (omega arith) in
     plain
 
 pub returns : goal.returns
 returns c =
-    let plain : Plain (said c.gate_list.result) =
-    call_plain gate_bytes gate_list_size _ _ _ _ c.gate_list.ensures (search rules) (omega arith) in
+    let plain : Plain (said c.gate_list.result) = call_plain gate_bytes gate_list_size _ _ _ _ c.gate_list.ensures (search rules) (omega arith) in
     let k = c.gate_list in
     record { answer = k.result; below = k.ensures; number = c.answer_number.ensures; plain = plain }

@@ -1,5 +1,4 @@
 -- `foldplover_origin` meets its contract: it hands over to `origin`. Assumes nothing.
-use borrow.Author.Rules.{rules}
 use Rattle.policy.specs.Refusals.{said}
 use Rattle.foldplover.specs.Coded.{Plain}
 use Rattle.foldplover.proofs.Plain.{origin_plain}
@@ -7,14 +6,12 @@ use Rattle.foldplover.proofs.foldplover_origin.Goals as goal
 
 pub answer_number-requires : goal.answer_number-requires
 answer_number-requires c =
-    let plain : Plain (said c.origin.result) =
-    origin_plain c.origin.ensures in
+    let plain : Plain (said c.origin.result) = origin_plain c.origin.ensures in
     plain
 
 pub returns : goal.returns
 returns c =
-    let plain : Plain (said c.origin.result) =
-    origin_plain c.origin.ensures in
+    let plain : Plain (said c.origin.result) = origin_plain c.origin.ensures in
     record {
       answer = c.origin.result;
       below = rw c.packet_of-p.ensures at c.origin.ensures;

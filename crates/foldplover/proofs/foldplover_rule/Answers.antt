@@ -1,5 +1,4 @@
 -- `foldplover_rule` meets its contract: it hands over to `rule`. Assumes nothing.
-use borrow.Author.Rules.{rules}
 use Rattle.policy.specs.Refusals.{said}
 use Rattle.foldplover.specs.Coded.{Plain}
 use Rattle.foldplover.proofs.Plain.{read_plain}
@@ -7,13 +6,11 @@ use Rattle.foldplover.proofs.foldplover_rule.Goals as goal
 
 pub answer_number-requires : goal.answer_number-requires
 answer_number-requires c =
-    let plain : Plain (said c.rule.result) =
-    read_plain c.rule.ensures in
+    let plain : Plain (said c.rule.result) = read_plain c.rule.ensures in
     plain
 
 pub returns : goal.returns
 returns c =
-    let plain : Plain (said c.rule.result) =
-    read_plain c.rule.ensures in
+    let plain : Plain (said c.rule.result) = read_plain c.rule.ensures in
     let k = c.rule in
     record { answer = k.result; below = k.ensures; number = c.answer_number.ensures; plain = plain }

@@ -7,13 +7,11 @@ use Rattle.foldplover.proofs.foldplover_split.Goals as goal
 
 pub answer_number-requires : goal.answer_number-requires
 answer_number-requires c =
-    let plain : Plain (said c.split.result) =
-    split_plain c.split.ensures (search rules) in
+    let plain : Plain (said c.split.result) = split_plain c.split.ensures (search rules) in
     plain
 
 pub returns : goal.returns
 returns c =
-    let plain : Plain (said c.split.result) =
-    split_plain c.split.ensures (search rules) in
+    let plain : Plain (said c.split.result) = split_plain c.split.ensures (search rules) in
     let k = c.split in
     record { answer = k.result; below = k.ensures; number = c.answer_number.ensures; plain = plain }

@@ -1,9 +1,7 @@
 -- `copy_box` meets its contract: the bytes go by way of a buffer of a box's length. Assumes nothing.
-use borrow.Author.Rules.{rules}
-use mathlib.Core.Path.{◌≡◌, refl}
+use mathlib.Core.Path.{◌≡◌}
 use Prim.Native.Nat.{◌+◌, ◌-◌}
 use native.Mathlib.Omega.{arith}
-use lib.ListN.{replicate}
 use Rattle.policy.specs.Fields.{box_size}
 use Rattle.groups.proofs.Copies.{copied}
 use Rattle.groups.proofs.copy_box.Goals as goal

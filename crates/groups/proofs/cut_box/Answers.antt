@@ -2,13 +2,11 @@
 use borrow.Author.Rules.{rules}
 use native.Mathlib.Omega.{arith}
 use mathlib.Core.Path.{◌≡◌, ◌∙◌}
-use mathlib.Core.Logic.{⊎_elim}
-use Prim.Native.Nat.{◌-◌}
 use lib.ListN.{length}
 use Rattle.policy.specs.Fields.{fields}
 use Rattle.policy.specs.Values.{region_of}
 use Rattle.policy.proofs.Values.{ranges-length}
-use Rattle.groups.proofs.Cutting.{Cutting, cutting_first, cutting_at, cutting_cut, cutting_past, cutting_last}
+use Rattle.groups.proofs.Cutting.{cutting_first, cutting_at, cutting_cut, cutting_past, cutting_last}
 use Rattle.groups.proofs.cut_box.Goals as goal
 use Rattle.groups.proofs.cut_box.Goals.{then-low-from, else-low-from+then-to-high, else-low-from+else-to-high}
 
@@ -35,7 +33,7 @@ loop-k-preserved c =
     let t = c.loop-k-test.true in
     let cut = cutting_cut g t c.low_at-low.ensures.0 c.high_at-high.ensures.0 c.low_at-from.ensures.0 c.high_at-to.ensures.0 in
     elim c.if-low-from.branch [
-      then-low-from w ↦ rw (w.done-is, w.work-is) (cut _ _ (omega (arith, c.requires.capacity_in_bounds.0)) w.cut_field-done.ensures)
+      | then-low-from w ↦ rw (w.done-is, w.work-is) (cut _ _ (omega (arith, c.requires.capacity_in_bounds.0)) w.cut_field-done.ensures)
       | else-low-from+then-to-high w ↦ rw (w.done-is, w.work-is) (cut _ _ (omega (arith, c.requires.capacity_in_bounds.0)) w.cut_field-done-then-to-high.ensures)
       | else-low-from+else-to-high w ↦ rw (w.done-is, w.work-is) (cutting_past g t (omega (arith, c.requires.capacity_in_bounds.0)) (omega (arith, c.low_at-from.ensures.0, c.low_at-low.ensures.0, w.if-low-from.false)) (omega (arith, c.high_at-to.ensures.0, c.high_at-high.ensures.0, w.if-to-high.false)))
     ]

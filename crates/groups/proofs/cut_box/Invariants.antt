@@ -1,14 +1,8 @@
 -- `cut_box` meets its contract: the loop's invariant says what is left of the cut from field k on. Assumes nothing.
-use borrow.Author.Rules.{rules}
-use native.Mathlib.Omega.{arith}
-use mathlib.Core.Path.{◌≡◌, ◌∙◌}
-use mathlib.Core.Logic.{⊎_elim}
 use Prim.Native.Nat.{◌-◌}
-use lib.ListN.{length}
 use Rattle.policy.specs.Fields.{fields}
 use Rattle.policy.specs.Values.{region_of}
-use Rattle.policy.proofs.Values.{ranges-length}
-use Rattle.groups.proofs.Cutting.{Cutting, cutting_first, cutting_at, cutting_cut, cutting_past, cutting_last}
+use Rattle.groups.proofs.Cutting.{Cutting}
 use Rattle.groups.proofs.cut_box.Given as goal
 
 abbrev pub invariant-loop-k : goal.invariant-loop-k

@@ -1,5 +1,4 @@
 -- `cut_field` meets its contract: the low part, the high part behind it, and the rest narrowed. Assumes nothing.
-use borrow.Author.Rules.{rules}
 use mathlib.Core.Path.{◌≡◌, ap, ◌∙◌}
 use Rattle.policy.specs.Ranges.{Range, range, Region}
 use Rattle.policy.specs.Values.{region_of}

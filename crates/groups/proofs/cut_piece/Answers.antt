@@ -1,5 +1,4 @@
 -- `cut_piece` meets its contract: a piece that shares a packet with the allow is cut, any other is kept. Assumes nothing.
-use borrow.Author.Rules.{rules}
 use mathlib.Core.Path.{sym, ◌∙◌}
 use Rattle.policy.specs.Values.{region_of}
 use Rattle.policy.proofs.Rest.{cut_whole}

@@ -1,14 +1,13 @@
 -- `cut_pieces` meets its contract: the loop's invariant says what is left of the pieces from piece i on. Assumes nothing.
 use borrow.Author.Rules.{rules}
 use mathlib.Core.Path.{◌≡◌, ◌∙◌}
-use Prim.Native.Nat.{◌-◌}
 use native.Mathlib.Omega.{arith}
 use lib.ListN.{length}
 use Rattle.policy.specs.Fields.{fields}
 use Rattle.policy.specs.Values.{region_of}
 use Rattle.policy.proofs.Values.{ranges-length}
 use Rattle.groups.proofs.Pieces.{written_alike}
-use Rattle.groups.proofs.Passes.{Passing, passing_first, passing_next, passing_last}
+use Rattle.groups.proofs.Passes.{passing_first, passing_next, passing_last}
 use Rattle.groups.proofs.cut_pieces.Goals as goal
 
 pub loop-i-init : goal.loop-i-init

@@ -1,10 +1,7 @@
 -- `first_touched` meets its contract: the loop's invariant says that the pieces before piece i stay. Assumes nothing.
-use borrow.Author.Rules.{rules}
 use mathlib.Core.Path.{sym, ◌∙◌}
-use Prim.Native.Nat.{◌-◌}
 use Rattle.policy.specs.Values.{region_of}
 use Rattle.policy.proofs.Rest.{cut_whole}
-use Rattle.groups.specs.Steps.{Untouched}
 use Rattle.groups.proofs.Passes.{untouched_first, untouched_next}
 use Rattle.groups.proofs.first_touched.Goals as goal
 

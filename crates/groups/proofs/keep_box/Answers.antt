@@ -1,5 +1,4 @@
 -- `keep_box` meets its contract: the bytes of a box are stored as they stand. Assumes nothing.
-use borrow.Author.Rules.{rules}
 use mathlib.Core.Path.{refl, ap, ◌∙◌}
 use Prim.Native.Nat.{◌+◌, ◌*◌}
 use native.Mathlib.Omega.{arith}

@@ -1,5 +1,4 @@
 -- `put_start` meets its contract: the deny rule's box is the start. Assumes nothing.
-use borrow.Author.Rules.{rules}
 use Rattle.policy.specs.Values.{region_of}
 use Rattle.groups.proofs.Starts.{started_alone}
 use Rattle.groups.proofs.put_start.Goals as goal

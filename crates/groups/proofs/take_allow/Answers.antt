@@ -1,5 +1,4 @@
 -- `take_allow` meets its contract, by the laws on what the pieces come to. Assumes nothing.
-use borrow.Author.Rules.{rules}
 use native.Mathlib.Omega.{arith}
 use Rattle.groups.proofs.Taken.{taken_over, taken}
 use Rattle.groups.proofs.take_allow.Goals as goal

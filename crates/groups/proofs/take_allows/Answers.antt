@@ -1,14 +1,9 @@
 -- `take_allows` meets its contract: the loop's invariant says that the pieces and the allows left come to what the start and all
 -- allows come to. Assumes nothing.
-use borrow.Author.Rules.{rules}
 use mathlib.Core.Path.{refl, sym, ◌∙◌}
-use mathlib.Core.Logic.{⊎_elim}
-use Prim.Native.Nat.{ℕ, ◌+◌, ◌-◌, ◌*◌}
+use Prim.Native.Nat.{◌+◌}
 use native.Mathlib.Omega.{arith}
-use Rattle.policy.specs.Fields.{box_size}
-use Rattle.wire.specs.Records.{boxes_in}
-use Rattle.groups.specs.Steps.{capacity}
-use Rattle.groups.proofs.Works.{proper_at, Working, working_first, working_deny, working_over, working_next, working_done}
+use Rattle.groups.proofs.Works.{proper_at, working_first, working_deny, working_over, working_next, working_done}
 use Rattle.groups.proofs.take_allows.Goals as goal
 use Rattle.groups.proofs.take_allows.Goals.{then-is_allow+else-n-gt-PIECES_MOST, else-is_allow}
 use Rattle.groups.proofs.take_allows.Invariants.{half}
@@ -32,7 +27,7 @@ loop-j-preserved c =
     let e = c.rule_at-rule.ensures in
     let b = sym c.is_allow.ensures in
     elim c.if-is_allow.branch [
-      then-is_allow+else-n-gt-PIECES_MOST w ↦ rw (w.n-is, w.work-is) (working_next s.invariant t e (b ∙ w.if-is_allow.true) w.take_allow-n.ensures (omega (arith, w.if-n-gt-PIECES_MOST.false)) (proper_at (c.args.i + 1) c.args.rules.now s.j c.requires.0.2 (omega arith) e) w.take_allow-n.auto.work)
+      | then-is_allow+else-n-gt-PIECES_MOST w ↦ rw (w.n-is, w.work-is) (working_next s.invariant t e (b ∙ w.if-is_allow.true) w.take_allow-n.ensures (omega (arith, w.if-n-gt-PIECES_MOST.false)) (proper_at (c.args.i + 1) c.args.rules.now s.j c.requires.0.2 (omega arith) e) w.take_allow-n.auto.work)
       | else-is_allow w ↦ rw (w.n-is, w.work-is) (working_deny s.invariant t e (b ∙ w.if-is_allow.false))
     ]
 

@@ -1,14 +1,10 @@
 -- `take_allows` meets its contract: the loop's invariant says that the pieces and the allows left come to what the start and all
 -- allows come to. Assumes nothing.
-use borrow.Author.Rules.{rules}
-use mathlib.Core.Path.{refl, sym, ◌∙◌}
-use mathlib.Core.Logic.{⊎_elim}
-use Prim.Native.Nat.{ℕ, ◌+◌, ◌-◌, ◌*◌}
-use native.Mathlib.Omega.{arith}
+use Prim.Native.Nat.{ℕ, ◌-◌, ◌*◌}
 use Rattle.policy.specs.Fields.{box_size}
 use Rattle.wire.specs.Records.{boxes_in}
 use Rattle.groups.specs.Steps.{capacity}
-use Rattle.groups.proofs.Works.{proper_at, Working, working_first, working_deny, working_over, working_next, working_done}
+use Rattle.groups.proofs.Works.{Working}
 use Rattle.groups.proofs.take_allows.Given as goal
 
 -- Where the second half begins.

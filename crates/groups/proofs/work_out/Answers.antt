@@ -1,5 +1,4 @@
 -- `work_out` meets its contract: what is worked out of the pieces put at the front is worked out of the start. Assumes nothing.
-use borrow.Author.Rules.{rules}
 use native.Mathlib.Omega.{arith}
 use Rattle.groups.proofs.Starts.{worked_from}
 use Rattle.groups.proofs.work_out.Goals as goal

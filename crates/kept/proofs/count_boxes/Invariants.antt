@@ -1,12 +1,9 @@
 -- `count_boxes` meets its contract: the boxes so far and those of the groups that are left are all. Assumes nothing.
-use borrow.Author.Rules.{rules}
-use native.Mathlib.Omega.{arith}
 use mathlib.Core.Path.{◌≡◌}
 use Prim.Native.Nat.{◌+◌, ◌≤◌}
 use lib.ListN.{length, drop}
 use Rattle.kept.specs.Steps.{run_size}
 use Rattle.sheet.specs.Steps.{box_count}
-use Rattle.kept.proofs.Runs.{boxes_next, boxes_none}
 use Rattle.kept.proofs.count_boxes.Given as goal
 
 abbrev pub invariant-loop-left : goal.invariant-loop-left

@@ -1,12 +1,7 @@
 -- `deny_boxes` meets its contract: what is left of the boxes leads to all of them. Assumes nothing.
-use borrow.Author.Rules.{rules}
 use native.Mathlib.Omega.{arith}
-use Prim.Native.Nat.{◌+◌, ◌*◌, ◌≤◌}
-use lib.ListN.{length, drop}
-use Rattle.policy.specs.Fields.{box_size, record_size}
 use Rattle.wire.proofs.Numbers.{bytes_all}
-use Rattle.listing.specs.Steps.{box_records}
-use Rattle.listing.proofs.Listing.{Leads, leads_first, denials_next, denials_all}
+use Rattle.listing.proofs.Listing.{leads_first, denials_next, denials_all}
 use Rattle.listing.proofs.deny_boxes.Goals as goal
 
 pub loop-left-init : goal.loop-left-init

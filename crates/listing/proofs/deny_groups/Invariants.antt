@@ -1,15 +1,10 @@
 -- `deny_groups` meets its contract: what is left of the groups leads to all of them. Assumes nothing.
-use borrow.Author.Rules.{rules}
-use native.Mathlib.Omega.{arith}
-use mathlib.Core.Path.{◌≡◌}
-use mathlib.Core.List.{List}
-use Prim.Native.Nat.{ℕ, ◌+◌, ◌*◌, ◌-◌, ◌≤◌, ◌<◌}
+use Prim.Native.Nat.{◌+◌, ◌*◌, ◌≤◌}
 use lib.ListN.{length, drop}
 use Rattle.policy.specs.Fields.{box_size, count_size, record_size}
-use Rattle.wire.proofs.Numbers.{bytes_all}
 use Rattle.listing.specs.Steps.{group_records}
 use Rattle.sheet.specs.Steps.{box_count}
-use Rattle.listing.proofs.Listing.{Leads, leads_first, group_count_lem, groups_next, groups_all}
+use Rattle.listing.proofs.Listing.{Leads}
 use Rattle.listing.proofs.deny_groups.Given as goal
 
 abbrev pub invariant-loop-more : goal.invariant-loop-more

@@ -1,5 +1,4 @@
 -- `gate_list` meets its contract. Assumes nothing.
-use borrow.Author.Rules.{rules}
 use mathlib.Core.Path.{◌≡◌}
 use mathlib.Core.Bool.{true}
 use Rattle.policy.specs.Fields.{limits, work_size}

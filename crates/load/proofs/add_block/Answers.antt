@@ -1,5 +1,5 @@
 -- `add_block` meets its contract, by its two tests. Assumes nothing.
-use Rattle.std.proofs.Common.{ap, ◌∙◌, arith, rules}
+use Rattle.std.proofs.Common.{ap, ◌∙◌, arith}
 use Rattle.policy.specs.Refusals.{accepted}
 use Rattle.load.specs.Steps.{added_heard, OfSum}
 use Rattle.load.proofs.Blocks.{added_many, added_broken, added_sum}

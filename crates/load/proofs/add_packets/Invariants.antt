@@ -1,8 +1,7 @@
 -- `add_packets` meets its contract: the loop's invariant says what is left of the packets. Assumes nothing.
-use Rattle.std.proofs.Common.{arith, rules}
 use Rattle.sheet.specs.Steps.{pair_at}
 use Rattle.load.specs.Steps.{load_value}
-use Rattle.load.proofs.Blocks.{Left, left_all, packet_there, left_next, left_none}
+use Rattle.load.proofs.Blocks.{Left}
 use Rattle.load.proofs.add_packets.Given as goal
 
 abbrev pub invariant-loop-left : goal.invariant-loop-left

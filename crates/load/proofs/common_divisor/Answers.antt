@@ -1,6 +1,5 @@
 -- `common_divisor` meets its contract. Assumes nothing.
-use Rattle.std.proofs.Common.{◌≡◌, sym, refl, ◌∙◌, mod-lt, arith, rules}
-use Rattle.load.specs.Load.{common}
+use Rattle.std.proofs.Common.{sym, ◌∙◌, mod-lt, arith}
 use Rattle.load.proofs.Gains.{common_next, common_last}
 use Rattle.load.proofs.common_divisor.Goals as goal
 

@@ -1,7 +1,6 @@
 -- `common_divisor` meets its contract. Assumes nothing.
-use Rattle.std.proofs.Common.{◌≡◌, sym, refl, ◌∙◌, mod-lt, arith, rules}
+use Rattle.std.proofs.Common.{◌≡◌}
 use Rattle.load.specs.Load.{common}
-use Rattle.load.proofs.Gains.{common_next, common_last}
 use Rattle.load.proofs.common_divisor.Given as goal
 
 abbrev pub invariant-loop-y : goal.invariant-loop-y

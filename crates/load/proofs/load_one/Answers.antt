@@ -1,5 +1,5 @@
 -- `load_one` meets its contract. Assumes nothing.
-use Rattle.std.proofs.Common.{sym, ◌∙◌, subst, rules}
+use Rattle.std.proofs.Common.{sym, ◌∙◌, subst}
 use Rattle.load.specs.Steps.{Bounded}
 use Rattle.origins.proofs.Calls.{traced_small}
 use Rattle.load.proofs.Traces.{traced_load, trace_bounded}

@@ -1,5 +1,5 @@
 -- `load_traced` meets its contract. Assumes nothing.
-use Rattle.std.proofs.Common.{arith, rules}
+use Rattle.std.proofs.Common.{arith}
 use Rattle.origins.proofs.Told.{small_gate, small_own}
 use Rattle.load.proofs.Traces.{gate_load, own_load, nowhere_load}
 use Rattle.load.proofs.load_traced.Goals as goal

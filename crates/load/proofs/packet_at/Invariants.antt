@@ -1,9 +1,7 @@
 -- `packet_at` meets its contract. Assumes nothing.
-use Rattle.std.proofs.Common.{◌≡◌, ◌+◌, ◌-◌, ◌<◌, ◌≤◌, ◌++◌, length, take, drop, refl, arith, rules}
+use Rattle.std.proofs.Common.{◌≡◌, ◌+◌, ◌-◌, ◌≤◌, ◌++◌, length, take, drop}
 use Rattle.policy.specs.Fields.{fields, widths}
-use Rattle.wire.proofs.Steps.{width_at}
 use Rattle.load.specs.Packets.{values_in, sum_widths, packet_in}
-use Rattle.load.proofs.Packets.{widths_step, value_next, values_last}
 use Rattle.load.proofs.packet_at.Given as goal
 
 abbrev pub invariant-loop-k : goal.invariant-loop-k

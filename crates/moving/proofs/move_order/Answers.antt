@@ -1,5 +1,4 @@
 -- `move_order` meets its contract. Assumes nothing.
-use borrow.Author.Rules.{rules}
 use Rattle.policy.specs.Fields.{limits, work_size}
 use Rattle.sheet.specs.Pairs.{pair_bytes, pair_size}
 use Rattle.promises.specs.Calls.{move_of}

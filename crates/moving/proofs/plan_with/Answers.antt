@@ -1,9 +1,7 @@
 -- `plan_with` meets its contract, arm by arm. Assumes nothing.
-use borrow.Author.Rules.{rules}
 use native.Mathlib.Omega.{arith}
 use mathlib.Core.Path.{◌≡◌}
 use mathlib.Core.List.{List}
-use mathlib.Core.Bool.{false, not}
 use Prim.Native.Nat.{ℕ, ◌+◌, ◌≤◌}
 use lib.ListN.{length, drop, length-take}
 use borrow.Author.Tests.{not-true, not-false}
@@ -20,26 +18,20 @@ use Rattle.moving.proofs.plan_with.Goals as goal
 
 pub draft_all-requires : goal.draft_all-requires
 draft_all-requires c =
-    let order : List ℕ =
-    c.args.order.now in
-    let layout : OrderLayout =
-    c.in-Parts.layout in
+    let order : List ℕ = c.args.order.now in
+    let layout : OrderLayout = c.in-Parts.layout in
     let read : OrderAccepted order layout =
     order_accepted c.read_order.ensures (bytes_all order (λ i. omega (arith, c.type_inv.order i))) layout c.in-Parts.is in
-    let roomy : draft_size ≤ length c.args.draft.now =
-    c.requires.1 in
+    let roomy : draft_size ≤ length c.args.draft.now = c.requires.1 in
     plan_ready read roomy c.requires.2
 
 pub returns-then-not-has_room : goal.returns-then-not-has_room
 returns-then-not-has_room c =
-    let order : List ℕ =
-    c.args.order.now in
-    let layout : OrderLayout =
-    c.in-Parts.layout in
+    let order : List ℕ = c.args.order.now in
+    let layout : OrderLayout = c.in-Parts.layout in
     let read : OrderAccepted order layout =
     order_accepted c.read_order.ensures (bytes_all order (λ i. omega (arith, c.type_inv.order i))) layout c.in-Parts.is in
-    let roomy : draft_size ≤ length c.args.draft.now =
-    c.requires.1 in
+    let roomy : draft_size ≤ length c.args.draft.now = c.requires.1 in
     let drafted : (r : Drafted) → c.draft_all.result ≡ r → DraftedGroups alone (drop count_size order) 0 layout.gate c.args.draft.now 0 0 c.args.work.now r c.draft_all.new.draft c.draft_all.new.work =
     λ r' e'. rw e' at c.draft_all.ensures in
     plan_seven read roomy (drafted _ c.in-Groups.is) (c.has_room.ensures.1 (not-true c.has_room.result c.if-not-has_room.true-raw)) _
@@ -47,62 +39,48 @@ returns-then-not-has_room c =
 pub slice_bounds-put_pair-end : goal.slice_bounds-put_pair-end
 slice_bounds-put_pair-end c =
     let yes = c.if-not-has_room.false-raw in
-    let order : List ℕ =
-    c.args.order.now in
-    let layout : OrderLayout =
-    c.in-Parts.layout in
+    let order : List ℕ = c.args.order.now in
+    let layout : OrderLayout = c.in-Parts.layout in
     let read : OrderAccepted order layout =
     order_accepted c.read_order.ensures (bytes_all order (λ i. omega (arith, c.type_inv.order i))) layout c.in-Parts.is in
-    let roomy : draft_size ≤ length c.args.draft.now =
-    c.requires.1 in
+    let roomy : draft_size ≤ length c.args.draft.now = c.requires.1 in
     let drafted : (r : Drafted) → c.draft_all.result ≡ r → DraftedGroups alone (drop count_size order) 0 layout.gate c.args.draft.now 0 0 c.args.work.now r c.draft_all.new.draft c.draft_all.new.work =
     λ r' e'. rw e' at c.draft_all.ensures in
     let told : DraftedGroups alone (drop count_size order) 0 layout.gate c.args.draft.now 0 0 c.args.work.now (Groups c.in-Groups.groups c.in-Groups.boxes c.in-Groups.end) c.draft_all.new.draft c.draft_all.new.work =
     drafted _ c.in-Groups.is in
-    let fits : c.in-Groups.boxes + layout.own ≤ limits.total =
-    c.has_room.ensures.0 (not-false c.has_room.result yes) in
-    let there : c.in-Groups.end ≤ length c.draft_all.new.draft =
-    omega (arith, plan_end read roomy told fits) in
+    let fits : c.in-Groups.boxes + layout.own ≤ limits.total = c.has_room.ensures.0 (not-false c.has_room.result yes) in
+    let there : c.in-Groups.end ≤ length c.draft_all.new.draft = omega (arith, plan_end read roomy told fits) in
     there
 
 pub slice_bounds-put_pair-end-in-Groups : goal.slice_bounds-put_pair-end-in-Groups
 slice_bounds-put_pair-end-in-Groups c =
     let yes = c.if-not-has_room.false-raw in
-    let order : List ℕ =
-    c.args.order.now in
-    let layout : OrderLayout =
-    c.in-Parts.layout in
+    let order : List ℕ = c.args.order.now in
+    let layout : OrderLayout = c.in-Parts.layout in
     let read : OrderAccepted order layout =
     order_accepted c.read_order.ensures (bytes_all order (λ i. omega (arith, c.type_inv.order i))) layout c.in-Parts.is in
-    let roomy : draft_size ≤ length c.args.draft.now =
-    c.requires.1 in
+    let roomy : draft_size ≤ length c.args.draft.now = c.requires.1 in
     let drafted : (r : Drafted) → c.draft_all.result ≡ r → DraftedGroups alone (drop count_size order) 0 layout.gate c.args.draft.now 0 0 c.args.work.now r c.draft_all.new.draft c.draft_all.new.work =
     λ r' e'. rw e' at c.draft_all.ensures in
     let told : DraftedGroups alone (drop count_size order) 0 layout.gate c.args.draft.now 0 0 c.args.work.now (Groups c.in-Groups.groups c.in-Groups.boxes c.in-Groups.end) c.draft_all.new.draft c.draft_all.new.work =
     drafted _ c.in-Groups.is in
-    let fits : c.in-Groups.boxes + layout.own ≤ limits.total =
-    c.has_room.ensures.0 (not-false c.has_room.result yes) in
-    let there : c.in-Groups.end ≤ length c.draft_all.new.draft =
-    omega (arith, plan_end read roomy told fits) in
+    let fits : c.in-Groups.boxes + layout.own ≤ limits.total = c.has_room.ensures.0 (not-false c.has_room.result yes) in
+    let there : c.in-Groups.end ≤ length c.draft_all.new.draft = omega (arith, plan_end read roomy told fits) in
     let h = there in simp length-take (omega arith)
 
 pub put_pair-requires : goal.put_pair-requires
 put_pair-requires c =
     let yes = c.if-not-has_room.false-raw in
-    let order : List ℕ =
-    c.args.order.now in
-    let layout : OrderLayout =
-    c.in-Parts.layout in
+    let order : List ℕ = c.args.order.now in
+    let layout : OrderLayout = c.in-Parts.layout in
     let read : OrderAccepted order layout =
     order_accepted c.read_order.ensures (bytes_all order (λ i. omega (arith, c.type_inv.order i))) layout c.in-Parts.is in
-    let roomy : draft_size ≤ length c.args.draft.now =
-    c.requires.1 in
+    let roomy : draft_size ≤ length c.args.draft.now = c.requires.1 in
     let drafted : (r : Drafted) → c.draft_all.result ≡ r → DraftedGroups alone (drop count_size order) 0 layout.gate c.args.draft.now 0 0 c.args.work.now r c.draft_all.new.draft c.draft_all.new.work =
     λ r' e'. rw e' at c.draft_all.ensures in
     let told : DraftedGroups alone (drop count_size order) 0 layout.gate c.args.draft.now 0 0 c.args.work.now (Groups c.in-Groups.groups c.in-Groups.boxes c.in-Groups.end) c.draft_all.new.draft c.draft_all.new.work =
     drafted _ c.in-Groups.is in
-    let fits : c.in-Groups.boxes + layout.own ≤ limits.total =
-    c.has_room.ensures.0 (not-false c.has_room.result yes) in
+    let fits : c.in-Groups.boxes + layout.own ≤ limits.total = c.has_room.ensures.0 (not-false c.has_room.result yes) in
     plan_put read roomy told fits c.requires.0
 
 pub returns-in-Refused : goal.returns-in-Refused
@@ -110,14 +88,11 @@ returns-in-Refused c = plan_refused _ _ _ _ (order_refused c.read_order.ensures 
 
 pub returns-in-TooManyPieces : goal.returns-in-TooManyPieces
 returns-in-TooManyPieces c =
-    let order : List ℕ =
-    c.args.order.now in
-    let layout : OrderLayout =
-    c.in-Parts.layout in
+    let order : List ℕ = c.args.order.now in
+    let layout : OrderLayout = c.in-Parts.layout in
     let read : OrderAccepted order layout =
     order_accepted c.read_order.ensures (bytes_all order (λ i. omega (arith, c.type_inv.order i))) layout c.in-Parts.is in
-    let roomy : draft_size ≤ length c.args.draft.now =
-    c.requires.1 in
+    let roomy : draft_size ≤ length c.args.draft.now = c.requires.1 in
     let drafted : (r : Drafted) → c.draft_all.result ≡ r → DraftedGroups alone (drop count_size order) 0 layout.gate c.args.draft.now 0 0 c.args.work.now r c.draft_all.new.draft c.draft_all.new.work =
     λ r' e'. rw e' at c.draft_all.ensures in
     plan_six read roomy (drafted _ c.in-TooManyPieces.is) _
@@ -125,18 +100,14 @@ returns-in-TooManyPieces c =
 pub returns-else-not-has_room : goal.returns-else-not-has_room
 returns-else-not-has_room c =
     let yes = c.if-not-has_room.false-raw in
-    let order : List ℕ =
-    c.args.order.now in
-    let layout : OrderLayout =
-    c.in-Parts.layout in
+    let order : List ℕ = c.args.order.now in
+    let layout : OrderLayout = c.in-Parts.layout in
     let read : OrderAccepted order layout =
     order_accepted c.read_order.ensures (bytes_all order (λ i. omega (arith, c.type_inv.order i))) layout c.in-Parts.is in
-    let roomy : draft_size ≤ length c.args.draft.now =
-    c.requires.1 in
+    let roomy : draft_size ≤ length c.args.draft.now = c.requires.1 in
     let drafted : (r : Drafted) → c.draft_all.result ≡ r → DraftedGroups alone (drop count_size order) 0 layout.gate c.args.draft.now 0 0 c.args.work.now r c.draft_all.new.draft c.draft_all.new.work =
     λ r' e'. rw e' at c.draft_all.ensures in
     let told : DraftedGroups alone (drop count_size order) 0 layout.gate c.args.draft.now 0 0 c.args.work.now (Groups c.in-Groups.groups c.in-Groups.boxes c.in-Groups.end) c.draft_all.new.draft c.draft_all.new.work =
     drafted _ c.in-Groups.is in
-    let fits : c.in-Groups.boxes + layout.own ≤ limits.total =
-    c.has_room.ensures.0 (not-false c.has_room.result yes) in
+    let fits : c.in-Groups.boxes + layout.own ≤ limits.total = c.has_room.ensures.0 (not-false c.has_room.result yes) in
     plan_accepted read roomy told fits _ c.put_pair.ensures

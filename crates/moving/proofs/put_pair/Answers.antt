@@ -1,5 +1,4 @@
 -- `put_pair` meets its contract. Assumes nothing.
-use borrow.Author.Rules.{rules}
 use mathlib.Core.Path.{refl}
 use Rattle.moving.proofs.Planning.{pair_put}
 use Rattle.moving.proofs.put_pair.Goals as goal

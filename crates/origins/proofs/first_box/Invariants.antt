@@ -1,13 +1,8 @@
 -- `first_box` meets its contract: the loop's invariant says what is left of the search. Assumes nothing.
-use borrow.Author.Rules.{rules}
-use native.Mathlib.Omega.{arith}
-use mathlib.Core.Path.{◌≡◌, ap, sym, ◌∙◌}
-use Prim.Native.Nat.{suc, ◌+◌, ◌-◌, ◌≤◌, ◌<◌}
-use lib.ListN.{length}
+use Prim.Native.Nat.{◌≤◌}
 use Rattle.policy.specs.Fields.{box_size}
-use Rattle.policy.specs.Ranges.{inside}
 use Rattle.policy.specs.Values.{packet_of}
-use Rattle.origins.proofs.Boxes.{Left, left_all, left_none, box_inside, box_whole, box_has, box_misses}
+use Rattle.origins.proofs.Boxes.{Left}
 use Rattle.origins.proofs.first_box.Given as goal
 
 abbrev pub invariant-loop-left : goal.invariant-loop-left

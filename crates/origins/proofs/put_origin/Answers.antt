@@ -1,5 +1,4 @@
 -- `put_origin` meets its contract. Assumes nothing.
-use borrow.Author.Rules.{rules}
 use native.Mathlib.Omega.{arith}
 use lib.ListN.{length-set}
 use Rattle.origins.proofs.put_origin.Goals as goal

@@ -28,112 +28,77 @@ count_boxes-front-requires c =
 
 pub overflow_mul-start : goal.overflow_mul-start
 overflow_mul-start c =
-    let sheet : List ℕ =
-    c.args.sheet.now in
-    let checked : Checked sheet c.args.layout =
-    c.requires.0 in
-    let packet : Packet =
-    packet_of c.args.p in
-    let earlier : ℕ =
-    c.count_denies-earlier.result in
-    let at : ℕ =
-    c.args.layout.from + count_size * earlier + box_size * c.count_boxes-front.result in
+    let sheet : List ℕ = c.args.sheet.now in
+    let checked : Checked sheet c.args.layout = c.requires.0 in
+    let packet : Packet = packet_of c.args.p in
+    let earlier : ℕ = c.count_denies-earlier.result in
+    let at : ℕ = c.args.layout.from + count_size * earlier + box_size * c.count_boxes-front.result in
     let inside : at + count_size ≤ length sheet =
     start_inside checked packet _ c.requires.1 _ c.count_denies-earlier.ensures _ c.count_boxes-front.ensures in
     let h = inside in search rules
 
 pub overflow_add-start : goal.overflow_add-start
 overflow_add-start c =
-    let sheet : List ℕ =
-    c.args.sheet.now in
-    let checked : Checked sheet c.args.layout =
-    c.requires.0 in
-    let packet : Packet =
-    packet_of c.args.p in
-    let earlier : ℕ =
-    c.count_denies-earlier.result in
-    let at : ℕ =
-    c.args.layout.from + count_size * earlier + box_size * c.count_boxes-front.result in
+    let sheet : List ℕ = c.args.sheet.now in
+    let checked : Checked sheet c.args.layout = c.requires.0 in
+    let packet : Packet = packet_of c.args.p in
+    let earlier : ℕ = c.count_denies-earlier.result in
+    let at : ℕ = c.args.layout.from + count_size * earlier + box_size * c.count_boxes-front.result in
     let inside : at + count_size ≤ length sheet =
     start_inside checked packet _ c.requires.1 _ c.count_denies-earlier.ensures _ c.count_boxes-front.ensures in
     let h = inside in search rules
 
 pub overflow_mul-start-2 : goal.overflow_mul-start-2
 overflow_mul-start-2 c =
-    let sheet : List ℕ =
-    c.args.sheet.now in
-    let checked : Checked sheet c.args.layout =
-    c.requires.0 in
-    let packet : Packet =
-    packet_of c.args.p in
-    let earlier : ℕ =
-    c.count_denies-earlier.result in
-    let at : ℕ =
-    c.args.layout.from + count_size * earlier + box_size * c.count_boxes-front.result in
+    let sheet : List ℕ = c.args.sheet.now in
+    let checked : Checked sheet c.args.layout = c.requires.0 in
+    let packet : Packet = packet_of c.args.p in
+    let earlier : ℕ = c.count_denies-earlier.result in
+    let at : ℕ = c.args.layout.from + count_size * earlier + box_size * c.count_boxes-front.result in
     let inside : at + count_size ≤ length sheet =
     start_inside checked packet _ c.requires.1 _ c.count_denies-earlier.ensures _ c.count_boxes-front.ensures in
     let h = inside in search rules
 
 pub overflow_add-start-2 : goal.overflow_add-start-2
 overflow_add-start-2 c =
-    let sheet : List ℕ =
-    c.args.sheet.now in
-    let checked : Checked sheet c.args.layout =
-    c.requires.0 in
-    let packet : Packet =
-    packet_of c.args.p in
-    let earlier : ℕ =
-    c.count_denies-earlier.result in
-    let at : ℕ =
-    c.args.layout.from + count_size * earlier + box_size * c.count_boxes-front.result in
+    let sheet : List ℕ = c.args.sheet.now in
+    let checked : Checked sheet c.args.layout = c.requires.0 in
+    let packet : Packet = packet_of c.args.p in
+    let earlier : ℕ = c.count_denies-earlier.result in
+    let at : ℕ = c.args.layout.from + count_size * earlier + box_size * c.count_boxes-front.result in
     let inside : at + count_size ≤ length sheet =
     start_inside checked packet _ c.requires.1 _ c.count_denies-earlier.ensures _ c.count_boxes-front.ensures in
     let h = inside in search rules
 
 pub count_at-count-requires : goal.count_at-count-requires
 count_at-count-requires c =
-    let sheet : List ℕ =
-    c.args.sheet.now in
-    let checked : Checked sheet c.args.layout =
-    c.requires.0 in
-    let packet : Packet =
-    packet_of c.args.p in
-    let earlier : ℕ =
-    c.count_denies-earlier.result in
-    let at : ℕ =
-    c.args.layout.from + count_size * earlier + box_size * c.count_boxes-front.result in
+    let sheet : List ℕ = c.args.sheet.now in
+    let checked : Checked sheet c.args.layout = c.requires.0 in
+    let packet : Packet = packet_of c.args.p in
+    let earlier : ℕ = c.count_denies-earlier.result in
+    let at : ℕ = c.args.layout.from + count_size * earlier + box_size * c.count_boxes-front.result in
     let inside : at + count_size ≤ length sheet =
     start_inside checked packet _ c.requires.1 _ c.count_denies-earlier.ensures _ c.count_boxes-front.ensures in
     inside
 
 pub overflow_add-start-3 : goal.overflow_add-start-3
 overflow_add-start-3 c =
-    let sheet : List ℕ =
-    c.args.sheet.now in
-    let checked : Checked sheet c.args.layout =
-    c.requires.0 in
-    let packet : Packet =
-    packet_of c.args.p in
-    let earlier : ℕ =
-    c.count_denies-earlier.result in
-    let at : ℕ =
-    c.args.layout.from + count_size * earlier + box_size * c.count_boxes-front.result in
+    let sheet : List ℕ = c.args.sheet.now in
+    let checked : Checked sheet c.args.layout = c.requires.0 in
+    let packet : Packet = packet_of c.args.p in
+    let earlier : ℕ = c.count_denies-earlier.result in
+    let at : ℕ = c.args.layout.from + count_size * earlier + box_size * c.count_boxes-front.result in
     let inside : at + count_size ≤ length sheet =
     start_inside checked packet _ c.requires.1 _ c.count_denies-earlier.ensures _ c.count_boxes-front.ensures in
     let h = inside in search rules
 
 pub first_box-number-requires : goal.first_box-number-requires
 first_box-number-requires c =
-    let sheet : List ℕ =
-    c.args.sheet.now in
-    let checked : Checked sheet c.args.layout =
-    c.requires.0 in
-    let packet : Packet =
-    packet_of c.args.p in
-    let earlier : ℕ =
-    c.count_denies-earlier.result in
-    let at : ℕ =
-    c.args.layout.from + count_size * earlier + box_size * c.count_boxes-front.result in
+    let sheet : List ℕ = c.args.sheet.now in
+    let checked : Checked sheet c.args.layout = c.requires.0 in
+    let packet : Packet = packet_of c.args.p in
+    let earlier : ℕ = c.count_denies-earlier.result in
+    let at : ℕ = c.args.layout.from + count_size * earlier + box_size * c.count_boxes-front.result in
     let room : (n : ℕ) → n ≡ count_in (drop at sheet) → at + count_size + box_size * n ≤ length sheet =
     λ n' e'. boxes_inside checked packet _ c.requires.1 _ c.count_denies-earlier.ensures _ c.count_boxes-front.ensures n' e' in
     let whole : (n : ℕ) → n ≡ count_in (drop at sheet) → Each Whole (each_in box_size box_in n (drop (at + count_size) sheet)) =
@@ -142,16 +107,11 @@ first_box-number-requires c =
 
 pub overflow_add-place : goal.overflow_add-place
 overflow_add-place c =
-    let sheet : List ℕ =
-    c.args.sheet.now in
-    let packet : Packet =
-    packet_of c.args.p in
-    let earlier : ℕ =
-    c.count_denies-earlier.result in
-    let at : ℕ =
-    c.args.layout.from + count_size * earlier + box_size * c.count_boxes-front.result in
-    let checked : Checked sheet c.args.layout =
-    c.requires.0 in
+    let sheet : List ℕ = c.args.sheet.now in
+    let packet : Packet = packet_of c.args.p in
+    let earlier : ℕ = c.count_denies-earlier.result in
+    let at : ℕ = c.args.layout.from + count_size * earlier + box_size * c.count_boxes-front.result in
+    let checked : Checked sheet c.args.layout = c.requires.0 in
     let room : (n : ℕ) → n ≡ count_in (drop at sheet) → at + count_size + box_size * n ≤ length sheet =
     λ n' e'. boxes_inside checked packet _ c.requires.1 _ c.count_denies-earlier.ensures _ c.count_boxes-front.ensures n' e' in
     let h = room c.count_at-count.result c.count_at-count.ensures.0 in
@@ -161,10 +121,7 @@ overflow_add-place c =
 
 pub returns : goal.returns
 returns c =
-    let sheet : List ℕ =
-    c.args.sheet.now in
-    let checked : Checked sheet c.args.layout =
-    c.requires.0 in
-    let packet : Packet =
-    packet_of c.args.p in
+    let sheet : List ℕ = c.args.sheet.now in
+    let checked : Checked sheet c.args.layout = c.requires.0 in
+    let packet : Packet = packet_of c.args.p in
     gate_traced checked packet _ c.requires.1 _ c.count_denies-earlier.ensures _ c.count_boxes-front.ensures _ c.count_at-count.ensures.0 _ c.first_box-number.ensures

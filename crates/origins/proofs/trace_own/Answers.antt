@@ -15,8 +15,7 @@ first_box-rule-requires c =
 
 pub overflow_mul-rule : goal.overflow_mul-rule
 overflow_mul-rule c =
-    let checked : Checked c.args.sheet.now c.args.layout =
-    c.requires.0 in
+    let checked : Checked c.args.sheet.now c.args.layout = c.requires.0 in
     let inside : c.args.layout.order.middle + count_size + record_size * c.first_box-rule.result + record_size ≤ length c.args.sheet.now =
     let h = own_here checked (packet_of c.args.p) _ c.requires.1 c.first_box-rule.result c.first_box-rule.ensures in
     omega (arith, checked.laid.lists.own_end, checked.laid.lists.inside) in
@@ -24,8 +23,7 @@ overflow_mul-rule c =
 
 pub overflow_add-from-2 : goal.overflow_add-from-2
 overflow_add-from-2 c =
-    let checked : Checked c.args.sheet.now c.args.layout =
-    c.requires.0 in
+    let checked : Checked c.args.sheet.now c.args.layout = c.requires.0 in
     let inside : c.args.layout.order.middle + count_size + record_size * c.first_box-rule.result + record_size ≤ length c.args.sheet.now =
     let h = own_here checked (packet_of c.args.p) _ c.requires.1 c.first_box-rule.result c.first_box-rule.ensures in
     omega (arith, checked.laid.lists.own_end, checked.laid.lists.inside) in
@@ -33,8 +31,7 @@ overflow_add-from-2 c =
 
 pub rule_at-record-requires : goal.rule_at-record-requires
 rule_at-record-requires c =
-    let checked : Checked c.args.sheet.now c.args.layout =
-    c.requires.0 in
+    let checked : Checked c.args.sheet.now c.args.layout = c.requires.0 in
     let inside : c.args.layout.order.middle + count_size + record_size * c.first_box-rule.result + record_size ≤ length c.args.sheet.now =
     let h = own_here checked (packet_of c.args.p) _ c.requires.1 c.first_box-rule.result c.first_box-rule.ensures in
     omega (arith, checked.laid.lists.own_end, checked.laid.lists.inside) in
@@ -42,8 +39,7 @@ rule_at-record-requires c =
 
 pub overflow_add-place : goal.overflow_add-place
 overflow_add-place c =
-    let checked : Checked c.args.sheet.now c.args.layout =
-    c.requires.0 in
+    let checked : Checked c.args.sheet.now c.args.layout = c.requires.0 in
     let inside : c.args.layout.order.middle + count_size + record_size * c.first_box-rule.result + record_size ≤ length c.args.sheet.now =
     let h = own_here checked (packet_of c.args.p) _ c.requires.1 c.first_box-rule.result c.first_box-rule.ensures in
     omega (arith, checked.laid.lists.own_end, checked.laid.lists.inside) in
@@ -53,6 +49,5 @@ overflow_add-place c =
 
 pub returns : goal.returns
 returns c =
-    let checked : Checked c.args.sheet.now c.args.layout =
-    c.requires.0 in
+    let checked : Checked c.args.sheet.now c.args.layout = c.requires.0 in
     own_traced checked (packet_of c.args.p) _ c.requires.1 c.first_box-rule.result c.first_box-rule.ensures (rule_of c.rule_at-record.result) c.rule_at-record.ensures

@@ -20,26 +20,18 @@ first_box-rule-requires c =
 
 pub returns-then-rule-count : goal.returns-then-rule-count
 returns-then-rule-count c =
-    let sheet : List ℕ =
-    c.args.sheet.now in
-    let checked : Checked sheet c.args.layout =
-    c.requires in
-    let packet : Packet =
-    packet_of c.args.p in
-    let rule : ℕ =
-    c.first_box-rule.result in
+    let sheet : List ℕ = c.args.sheet.now in
+    let checked : Checked sheet c.args.layout = c.requires in
+    let packet : Packet = packet_of c.args.p in
+    let rule : ℕ = c.first_box-rule.result in
     nowhere checked packet rule c.first_box-rule.ensures c.if-rule-count.true
 
 pub overflow_mul-rule : goal.overflow_mul-rule
 overflow_mul-rule c =
-    let sheet : List ℕ =
-    c.args.sheet.now in
-    let checked : Checked sheet c.args.layout =
-    c.requires in
-    let packet : Packet =
-    packet_of c.args.p in
-    let rule : ℕ =
-    c.first_box-rule.result in
+    let sheet : List ℕ = c.args.sheet.now in
+    let checked : Checked sheet c.args.layout = c.requires in
+    let packet : Packet = packet_of c.args.p in
+    let rule : ℕ = c.first_box-rule.result in
     let inside : (rule ≡ c.args.layout.order.gate → ⊥) → count_size + record_size * rule + record_size ≤ length sheet =
     λ some'.
     let h = gate_here checked packet rule c.first_box-rule.ensures some' in
@@ -49,14 +41,10 @@ overflow_mul-rule c =
 
 pub overflow_add-rule : goal.overflow_add-rule
 overflow_add-rule c =
-    let sheet : List ℕ =
-    c.args.sheet.now in
-    let checked : Checked sheet c.args.layout =
-    c.requires in
-    let packet : Packet =
-    packet_of c.args.p in
-    let rule : ℕ =
-    c.first_box-rule.result in
+    let sheet : List ℕ = c.args.sheet.now in
+    let checked : Checked sheet c.args.layout = c.requires in
+    let packet : Packet = packet_of c.args.p in
+    let rule : ℕ = c.first_box-rule.result in
     let inside : (rule ≡ c.args.layout.order.gate → ⊥) → count_size + record_size * rule + record_size ≤ length sheet =
     λ some'.
     let h = gate_here checked packet rule c.first_box-rule.ensures some' in
@@ -66,14 +54,10 @@ overflow_add-rule c =
 
 pub rule_at-record-requires : goal.rule_at-record-requires
 rule_at-record-requires c =
-    let sheet : List ℕ =
-    c.args.sheet.now in
-    let checked : Checked sheet c.args.layout =
-    c.requires in
-    let packet : Packet =
-    packet_of c.args.p in
-    let rule : ℕ =
-    c.first_box-rule.result in
+    let sheet : List ℕ = c.args.sheet.now in
+    let checked : Checked sheet c.args.layout = c.requires in
+    let packet : Packet = packet_of c.args.p in
+    let rule : ℕ = c.first_box-rule.result in
     let inside : (rule ≡ c.args.layout.order.gate → ⊥) → count_size + record_size * rule + record_size ≤ length sheet =
     λ some'.
     let h = gate_here checked packet rule c.first_box-rule.ensures some' in
@@ -83,28 +67,20 @@ rule_at-record-requires c =
 
 pub trace_own-requires : goal.trace_own-requires
 trace_own-requires c =
-    let sheet : List ℕ =
-    c.args.sheet.now in
-    let checked : Checked sheet c.args.layout =
-    c.requires in
-    let packet : Packet =
-    packet_of c.args.p in
-    let rule : ℕ =
-    c.first_box-rule.result in
+    let sheet : List ℕ = c.args.sheet.now in
+    let checked : Checked sheet c.args.layout = c.requires in
+    let packet : Packet = packet_of c.args.p in
+    let rule : ℕ = c.first_box-rule.result in
     let decided : first packet (pair_at c.args.layout sheet).order.gate ≡ found rule (rule_of c.rule_at-record.result).action =
     gate_decides checked packet rule c.first_box-rule.ensures c.if-rule-count.false (rule_of c.rule_at-record.result) c.rule_at-record.ensures in
     (checked, gate_allows checked packet rule (rule_of c.rule_at-record.result) decided c.is_allow.ensures c.if-is_allow.true)
 
 pub trace_gate-requires : goal.trace_gate-requires
 trace_gate-requires c =
-    let sheet : List ℕ =
-    c.args.sheet.now in
-    let checked : Checked sheet c.args.layout =
-    c.requires in
-    let packet : Packet =
-    packet_of c.args.p in
-    let rule : ℕ =
-    c.first_box-rule.result in
+    let sheet : List ℕ = c.args.sheet.now in
+    let checked : Checked sheet c.args.layout = c.requires in
+    let packet : Packet = packet_of c.args.p in
+    let rule : ℕ = c.first_box-rule.result in
     let decided : first packet (pair_at c.args.layout sheet).order.gate ≡ found rule (rule_of c.rule_at-record.result).action =
     gate_decides checked packet rule c.first_box-rule.ensures c.if-rule-count.false (rule_of c.rule_at-record.result) c.rule_at-record.ensures in
     (checked, gate_drops checked packet rule (rule_of c.rule_at-record.result) decided c.is_allow.ensures c.if-is_allow.false)

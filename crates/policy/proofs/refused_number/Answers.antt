@@ -1,5 +1,4 @@
 -- `refused_number` meets its contract. Assumes nothing.
-use borrow.Author.Rules.{rules}
 use native.Mathlib.Omega.{arith}
 use Rattle.policy.proofs.refused_number.Goals as goal
 

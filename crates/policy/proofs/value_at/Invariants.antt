@@ -1,14 +1,10 @@
 -- `value_at` meets its contract: the loop's invariant says whether field k has been passed. Assumes nothing.
-use borrow.Author.Rules.{rules}
-use native.Mathlib.Omega.{arith}
-use mathlib.Core.Path.{◌≡◌, ap, sym, ◌∙◌}
+use mathlib.Core.Path.{◌≡◌}
 use mathlib.Core.Bool.{cond}
-use mathlib.Core.Logic.{⊎_elim}
-use Prim.Native.Nat.{ℕ, ◌+◌, ◌-◌, ◌≤◌}
+use Prim.Native.Nat.{◌-◌, ◌≤◌}
 use lib.Dec.{ltb}
 use lib.ListN.{get_or}
 use Rattle.policy.specs.Fields.{fields}
-use Rattle.policy.proofs.Values.{walk_before, walk_after, walk_past}
 use Rattle.policy.proofs.value_at.Given as goal
 
 abbrev pub invariant-loop-j : goal.invariant-loop-j

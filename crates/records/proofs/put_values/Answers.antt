@@ -2,10 +2,9 @@
 use borrow.Author.Rules.{rules}
 use native.Mathlib.Omega.{arith}
 use mathlib.Core.Path.{◌≡◌, refl, ap}
-use Prim.Native.Nat.{ℕ, ◌+◌, ◌-◌, ◌≤◌}
-use lib.ListN.{length, drop, drop_of_length-le}
+use Prim.Native.Nat.{ℕ, ◌+◌}
+use lib.ListN.{drop_of_length-le}
 use lib.Seq.{sets}
-use Rattle.policy.specs.Fields.{fields}
 use Rattle.lists.proofs.Lists.{sets-next}
 use Rattle.records.proofs.put_values.Goals as goal
 

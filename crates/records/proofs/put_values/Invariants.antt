@@ -1,12 +1,9 @@
 -- `put_values` meets its contract: the loop's invariant says what is left to store. Assumes nothing.
-use borrow.Author.Rules.{rules}
-use native.Mathlib.Omega.{arith}
-use mathlib.Core.Path.{◌≡◌, refl, ap}
-use Prim.Native.Nat.{ℕ, ◌+◌, ◌-◌, ◌≤◌}
-use lib.ListN.{length, drop, drop_of_length-le}
+use mathlib.Core.Path.{◌≡◌}
+use Prim.Native.Nat.{◌+◌, ◌-◌, ◌≤◌}
+use lib.ListN.{length, drop}
 use lib.Seq.{sets}
 use Rattle.policy.specs.Fields.{fields}
-use Rattle.lists.proofs.Lists.{sets-next}
 use Rattle.records.proofs.put_values.Given as goal
 
 abbrev pub invariant-loop-k : goal.invariant-loop-k

@@ -1,5 +1,4 @@
 -- `rule_of` meets its contract. Assumes nothing.
-use borrow.Author.Rules.{rules}
 use mathlib.Core.Path.{refl}
 use Rattle.records.specs.Calls.{numbers_rule}
 use Rattle.records.proofs.rule_of.Goals as goal

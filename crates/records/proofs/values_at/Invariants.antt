@@ -1,12 +1,8 @@
 -- `values_at` meets its contract: the loop's invariant says which values are read. Assumes nothing.
-use borrow.Author.Rules.{rules}
-use native.Mathlib.Omega.{arith}
-use mathlib.Core.Path.{◌≡◌, refl, ap, sym, ◌∙◌}
-use Prim.Native.Nat.{ℕ, ◌-◌, ◌≤◌}
+use mathlib.Core.Path.{◌≡◌}
+use Prim.Native.Nat.{◌-◌, ◌≤◌}
 use lib.ListN.{length, take, drop}
-use lib.Seq.{take_all}
 use Rattle.policy.specs.Fields.{fields}
-use Rattle.records.proofs.Steps.{value_read}
 use Rattle.records.proofs.values_at.Given as goal
 
 abbrev pub invariant-loop-k : goal.invariant-loop-k

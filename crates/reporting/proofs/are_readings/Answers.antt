@@ -1,5 +1,4 @@
 -- `are_readings` meets its contract. Assumes nothing.
-use borrow.Author.Rules.{rules}
 use mathlib.Core.Path.{refl}
 use borrow.Author.Tests.{eq-eqb, ne_eqb}
 use Rattle.reporting.specs.Report.{are_readings}

@@ -1,5 +1,4 @@
 -- `hits_at` meets its contract. Assumes nothing.
-use borrow.Author.Rules.{rules}
 use native.Mathlib.Omega.{arith}
 use Rattle.reporting.proofs.Hits.{readings_there, hits_past, hits_here}
 use Rattle.reporting.proofs.hits_at.Goals as goal

@@ -1,5 +1,4 @@
 -- `load_all` meets its contract. Assumes nothing.
-use borrow.Author.Rules.{rules}
 use mathlib.Core.Path.{sym, ◌∙◌, subst}
 use borrow.Author.Tests.{not-true, not-false}
 use Rattle.load.specs.Steps.{Bounded, added_heard}

@@ -1,15 +1,11 @@
 -- `put_hits` meets its contract. Assumes nothing.
-use borrow.Author.Rules.{rules}
-use native.Mathlib.Omega.{arith}
-use mathlib.Core.Path.{◌≡◌, refl, ◌∙◌}
-use mathlib.Core.List.{List}
-use Prim.Native.Nat.{ℕ, ◌-◌, ◌≤◌}
-use lib.ListN.{length, drop, drop_of_length-le}
+use mathlib.Core.Path.{◌≡◌}
+use Prim.Native.Nat.{◌-◌, ◌≤◌}
+use lib.ListN.{length, drop}
 use lib.Seq.{sets}
-use Rattle.lists.proofs.Lists.{sets-next}
 use Rattle.load.specs.Packets.{hits_in}
 use Rattle.reporting.specs.Report.{hits_size}
-use Rattle.reporting.proofs.Hits.{hits-length, padded, padded_at, padded_length, padded_filled}
+use Rattle.reporting.proofs.Hits.{padded}
 use Rattle.reporting.proofs.put_hits.Given as goal
 
 abbrev pub invariant-loop-place : goal.invariant-loop-place

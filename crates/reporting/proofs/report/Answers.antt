@@ -1,5 +1,4 @@
 -- `report` meets its contract. Assumes nothing.
-use borrow.Author.Rules.{rules}
 use native.Mathlib.Omega.{arith}
 use Rattle.origins.specs.Steps.{Checked}
 use Rattle.origins.proofs.Calls.{passes_check}
@@ -17,20 +16,17 @@ returns-then-work-lt-WORK_BYTES c = work_too_short _ _ _ _ _ _ _ c.if-totals-lt-
 
 pub load_all-requires : goal.load_all-requires
 load_all-requires c =
-    let laid : Checked c.args.sheet.now c.in-Parts.layout =
-    passes_check (rw c.in-Parts.is at c.checked.ensures.0) in
+    let laid : Checked c.args.sheet.now c.in-Parts.layout = passes_check (rw c.in-Parts.is at c.checked.ensures.0) in
     laid
 
 pub overflow_add-places : goal.overflow_add-places
 overflow_add-places c =
-    let laid : Checked c.args.sheet.now c.in-Parts.layout =
-    passes_check (rw c.in-Parts.is at c.checked.ensures.0) in
+    let laid : Checked c.args.sheet.now c.in-Parts.layout = passes_check (rw c.in-Parts.is at c.checked.ensures.0) in
     let g = laid in omega (arith, g.laid.total_limit)
 
 pub put_hits-requires : goal.put_hits-requires
 put_hits-requires c =
-    let laid : Checked c.args.sheet.now c.in-Parts.layout =
-    passes_check (rw c.in-Parts.is at c.checked.ensures.0) in
+    let laid : Checked c.args.sheet.now c.in-Parts.layout = passes_check (rw c.in-Parts.is at c.checked.ensures.0) in
     let g = laid in
     (c.if-hits-lt-HITS_NUMBERS.false, omega (arith, g.laid.total_limit), readings_known _ _ _ _ _ (places_are g.laid) _ (rw c.in-Sum.is at c.load_all.ensures))
 
@@ -40,13 +36,11 @@ returns-in-Refused c =
 
 pub returns-in-Refused-load_all : goal.returns-in-Refused-load_all
 returns-in-Refused-load_all c =
-    let laid : Checked c.args.sheet.now c.in-Parts.layout =
-    passes_check (rw c.in-Parts.is at c.checked.ensures.0) in
+    let laid : Checked c.args.sheet.now c.in-Parts.layout = passes_check (rw c.in-Parts.is at c.checked.ensures.0) in
     load_refuses _ _ _ _ _ _ _ c.if-totals-lt-TOTALS_NUMBERS.false c.if-hits-lt-HITS_NUMBERS.false c.if-work-lt-WORK_BYTES.false c.checked.ensures.1 laid (rw c.in-Refused-load_all.is at c.load_all.ensures)
 
 pub returns-in-Sum : goal.returns-in-Sum
 returns-in-Sum c =
-    let laid : Checked c.args.sheet.now c.in-Parts.layout =
-    passes_check (rw c.in-Parts.is at c.checked.ensures.0) in
+    let laid : Checked c.args.sheet.now c.in-Parts.layout = passes_check (rw c.in-Parts.is at c.checked.ensures.0) in
     report_told _ _ _ _ _ _ _ c.if-totals-lt-TOTALS_NUMBERS.false c.if-hits-lt-HITS_NUMBERS.false c.if-work-lt-WORK_BYTES.false c.checked.ensures.1 laid _ _ (places_are laid.laid) (rw c.in-Sum.is at c.load_all.ensures)
     c.put_totals.ensures c.put_hits.ensures

@@ -1,10 +1,9 @@
 -- `first_row` meets its contract: the loop's invariant says what is left of the search. Assumes nothing.
-use borrow.Author.Rules.{rules}
 use native.Mathlib.Omega.{arith}
 use mathlib.Core.Path.{◌≡◌, ap, sym, ◌∙◌}
 use mathlib.Core.List.{List, ◌∷◌}
-use Prim.Native.Nat.{ℕ, ◌+◌, ◌*◌, ◌-◌, ◌≤◌, ◌<◌}
-use lib.ListN.{length, drop}
+use Prim.Native.Nat.{ℕ, ◌+◌, ◌-◌}
+use lib.ListN.{drop}
 use Rattle.lists.specs.Lists.{Each}
 use Rattle.policy.specs.Ranges.{Region, Packet}
 use Rattle.policy.specs.Rules.{Proper}
@@ -24,12 +23,9 @@ loop-left-init c =
 pub row_has-requires : goal.row_has-requires
 row_has-requires c =
     let some = c.loop-left-test.true in
-    let table : List ℕ =
-    c.args.table.now in
-    let row : Region =
-    row_in (drop c.loop-left.start table) in
-    let later : List Region =
-    rows_in (c.loop-left.left - 1) (drop (c.loop-left.start + row_size) table) in
+    let table : List ℕ = c.args.table.now in
+    let row : Region = row_in (drop c.loop-left.start table) in
+    let later : List Region = rows_in (c.loop-left.left - 1) (drop (c.loop-left.start + row_size) table) in
     let proper : Proper row × Each Proper later =
     each_turn row_size row_in table c.loop-left.start c.loop-left.left some Proper c.loop-left.invariant.2 in
     (omega (arith, c.loop-left.invariant.1, c.loop-left-test.true), proper.0)
@@ -40,14 +36,10 @@ overflow_sub-result c = c.loop-left.invariant.0
 pub returns-then-row_has : goal.returns-then-row_has
 returns-then-row_has c =
     let some = c.loop-left-test.true in
-    let packet : Packet =
-    packet_of c.args.p in
-    let table : List ℕ =
-    c.args.table.now in
-    let row : Region =
-    row_in (drop c.loop-left.start table) in
-    let later : List Region =
-    rows_in (c.loop-left.left - 1) (drop (c.loop-left.start + row_size) table) in
+    let packet : Packet = packet_of c.args.p in
+    let table : List ℕ = c.args.table.now in
+    let row : Region = row_in (drop c.loop-left.start table) in
+    let later : List Region = rows_in (c.loop-left.left - 1) (drop (c.loop-left.start + row_size) table) in
     let number : box_number packet (rows_in c.args.n (drop c.args.at table)) ≡ c.args.n - c.loop-left.left + box_number packet (row ∷ later) =
     c.loop-left.invariant.3 ∙ ap (λ (l : List Region). c.args.n - c.loop-left.left + box_number packet l) (items_turn row_size row_in table c.loop-left.start c.loop-left.left some) in
     turn_has packet _ c.args.n c.loop-left.left row later number
@@ -56,19 +48,14 @@ returns-then-row_has c =
 pub loop-left-preserved : goal.loop-left-preserved
 loop-left-preserved c =
     let some = c.loop-left-test.true in
-    let packet : Packet =
-    packet_of c.args.p in
-    let table : List ℕ =
-    c.args.table.now in
-    let row : Region =
-    row_in (drop c.loop-left.start table) in
-    let later : List Region =
-    rows_in (c.loop-left.left - 1) (drop (c.loop-left.start + row_size) table) in
+    let packet : Packet = packet_of c.args.p in
+    let table : List ℕ = c.args.table.now in
+    let row : Region = row_in (drop c.loop-left.start table) in
+    let later : List Region = rows_in (c.loop-left.left - 1) (drop (c.loop-left.start + row_size) table) in
     let proper : Proper row × Each Proper later =
     each_turn row_size row_in table c.loop-left.start c.loop-left.left some Proper c.loop-left.invariant.2 in
     let number : box_number packet (rows_in c.args.n (drop c.args.at table)) ≡ c.args.n - c.loop-left.left + box_number packet (row ∷ later) =
-    c.loop-left.invariant.3 ∙ ap (λ (l : List Region). c.args.n - c.loop-left.left + box_number packet l) (items_turn row_size row_in table c.loop-left.start c.loop-left.left some) in
-    (
+    c.loop-left.invariant.3 ∙ ap (λ (l : List Region). c.args.n - c.loop-left.left + box_number packet l) (items_turn row_size row_in table c.loop-left.start c.loop-left.left some) in (
       omega (arith, c.loop-left.invariant.0),
       omega (arith, c.loop-left.invariant.1),
       proper.1,
@@ -79,9 +66,7 @@ loop-left-preserved c =
 pub returns : goal.returns
 unfolding box_number
 returns c =
-    let table : List ℕ =
-    c.args.table.now in
-    let packet : Packet =
-    packet_of c.args.p in
+    let table : List ℕ = c.args.table.now in
+    let packet : Packet = packet_of c.args.p in
     let e = ap (box_number packet) (items_none row_size row_in (drop c.loop-left.start table) c.loop-left.left (omega (arith, c.loop-left-test.false))) in
     omega (arith, c.loop-left.invariant.0, c.loop-left.invariant.3, c.loop-left-test.false)

@@ -1,18 +1,12 @@
 -- `first_row` meets its contract: the loop's invariant says what is left of the search. Assumes nothing.
-use borrow.Author.Rules.{rules}
-use native.Mathlib.Omega.{arith}
-use mathlib.Core.Path.{◌≡◌, ap, sym, ◌∙◌}
-use mathlib.Core.List.{List, ◌∷◌}
-use Prim.Native.Nat.{ℕ, ◌+◌, ◌*◌, ◌-◌, ◌≤◌, ◌<◌}
+use mathlib.Core.Path.{◌≡◌}
+use Prim.Native.Nat.{◌+◌, ◌*◌, ◌-◌, ◌≤◌}
 use lib.ListN.{length, drop}
 use Rattle.lists.specs.Lists.{Each}
-use Rattle.policy.specs.Ranges.{Region, Packet}
 use Rattle.policy.specs.Rules.{Proper}
 use Rattle.policy.specs.Steps.{box_number}
 use Rattle.policy.specs.Values.{packet_of}
-use Rattle.rows.specs.Steps.{row_size, row_in, rows_in}
-use Rattle.wire.proofs.Items.{items_turn, each_turn, items_none}
-use Rattle.rows.proofs.Turns.{turn_has, turn_misses}
+use Rattle.rows.specs.Steps.{row_size, rows_in}
 use Rattle.rows.proofs.first_row.Given as goal
 
 abbrev pub invariant-loop-left : goal.invariant-loop-left

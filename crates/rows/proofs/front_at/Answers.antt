@@ -1,5 +1,4 @@
 -- `front_at` meets its contract. Assumes nothing.
-use borrow.Author.Rules.{rules}
 use native.Mathlib.Omega.{arith}
 use Prim.Native.Nat.{◌+◌}
 use Rattle.rows.specs.Steps.{fronts_at}

@@ -5,7 +5,6 @@ use mathlib.Core.Path.{◌≡◌, refl}
 use mathlib.Core.List.{List}
 use Prim.Native.Nat.{ℕ, ◌+◌, ◌*◌, ◌-◌, ◌≤◌}
 use lib.ListN.{length, drop}
-use lib.Seq.{sets}
 use Rattle.lists.specs.Lists.{Each}
 use Rattle.policy.specs.Fields.{box_size, count_size}
 use Rattle.policy.specs.Rules.{Proper}
@@ -14,7 +13,7 @@ use Rattle.wire.specs.Records.{box_in, each_in, each_bytes}
 use Rattle.sheet.specs.Steps.{groups_from, box_count}
 use Rattle.kept.specs.Steps.{run_size}
 use Rattle.kept.proofs.Runs.{boxes_next}
-use Rattle.rows.specs.Steps.{row_size, rows_numbers}
+use Rattle.rows.specs.Steps.{row_size}
 use Rattle.rows.proofs.Turns.{each_group, group_turn, groups_none}
 use Rattle.rows.proofs.put_groups.Goals as goal
 
@@ -28,12 +27,9 @@ count_at-count-requires c = omega (arith, c.loop-left.invariant.0, c.loop-left-t
 
 pub overflow_add-start : goal.overflow_add-start
 overflow_add-start c =
-    let sheet : List ℕ =
-    c.args.sheet.now in
-    let count : ℕ =
-    c.count_at-count.result in
-    let next : ℕ =
-    c.loop-left.start + count_size + box_size * count in
+    let sheet : List ℕ = c.args.sheet.now in
+    let count : ℕ = c.count_at-count.result in
+    let next : ℕ = c.loop-left.start + count_size + box_size * count in
     let counts : box_count c.loop-left.left (drop c.loop-left.start sheet) ≡ count + box_count (c.loop-left.left - 1) (drop next sheet) =
     boxes_next c.loop-left.left sheet c.loop-left.start count c.loop-left-test.true c.count_at-count.ensures.0 in
     let there : next + run_size (c.loop-left.left - 1) (drop next sheet) ≤ length sheet =
@@ -42,12 +38,9 @@ overflow_add-start c =
 
 pub put_rows-requires : goal.put_rows-requires
 put_rows-requires c =
-    let sheet : List ℕ =
-    c.args.sheet.now in
-    let count : ℕ =
-    c.count_at-count.result in
-    let next : ℕ =
-    c.loop-left.start + count_size + box_size * count in
+    let sheet : List ℕ = c.args.sheet.now in
+    let count : ℕ = c.count_at-count.result in
+    let next : ℕ = c.loop-left.start + count_size + box_size * count in
     let counts : box_count c.loop-left.left (drop c.loop-left.start sheet) ≡ count + box_count (c.loop-left.left - 1) (drop next sheet) =
     boxes_next c.loop-left.left sheet c.loop-left.start count c.loop-left-test.true c.count_at-count.ensures.0 in
     let there : next + run_size (c.loop-left.left - 1) (drop next sheet) ≤ length sheet =
@@ -60,12 +53,9 @@ put_rows-requires c =
 
 pub overflow_mul-p : goal.overflow_mul-p
 overflow_mul-p c =
-    let sheet : List ℕ =
-    c.args.sheet.now in
-    let count : ℕ =
-    c.count_at-count.result in
-    let next : ℕ =
-    c.loop-left.start + count_size + box_size * count in
+    let sheet : List ℕ = c.args.sheet.now in
+    let count : ℕ = c.count_at-count.result in
+    let next : ℕ = c.loop-left.start + count_size + box_size * count in
     let counts : box_count c.loop-left.left (drop c.loop-left.start sheet) ≡ count + box_count (c.loop-left.left - 1) (drop next sheet) =
     boxes_next c.loop-left.left sheet c.loop-left.start count c.loop-left-test.true c.count_at-count.ensures.0 in
     let room : c.loop-left.p + row_size * count + row_size * box_count (c.loop-left.left - 1) (drop next sheet) ≤ length c.loop-left.table =
@@ -74,12 +64,9 @@ overflow_mul-p c =
 
 pub overflow_add-p : goal.overflow_add-p
 overflow_add-p c =
-    let sheet : List ℕ =
-    c.args.sheet.now in
-    let count : ℕ =
-    c.count_at-count.result in
-    let next : ℕ =
-    c.loop-left.start + count_size + box_size * count in
+    let sheet : List ℕ = c.args.sheet.now in
+    let count : ℕ = c.count_at-count.result in
+    let next : ℕ = c.loop-left.start + count_size + box_size * count in
     let counts : box_count c.loop-left.left (drop c.loop-left.start sheet) ≡ count + box_count (c.loop-left.left - 1) (drop next sheet) =
     boxes_next c.loop-left.left sheet c.loop-left.start count c.loop-left-test.true c.count_at-count.ensures.0 in
     let room : c.loop-left.p + row_size * count + row_size * box_count (c.loop-left.left - 1) (drop next sheet) ≤ length c.loop-left.table =
@@ -88,12 +75,9 @@ overflow_add-p c =
 
 pub overflow_add-start-in-loop-left : goal.overflow_add-start-in-loop-left
 overflow_add-start-in-loop-left c =
-    let sheet : List ℕ =
-    c.args.sheet.now in
-    let count : ℕ =
-    c.count_at-count.result in
-    let next : ℕ =
-    c.loop-left.start + count_size + box_size * count in
+    let sheet : List ℕ = c.args.sheet.now in
+    let count : ℕ = c.count_at-count.result in
+    let next : ℕ = c.loop-left.start + count_size + box_size * count in
     let counts : box_count c.loop-left.left (drop c.loop-left.start sheet) ≡ count + box_count (c.loop-left.left - 1) (drop next sheet) =
     boxes_next c.loop-left.left sheet c.loop-left.start count c.loop-left-test.true c.count_at-count.ensures.0 in
     let there : next + run_size (c.loop-left.left - 1) (drop next sheet) ≤ length sheet =
@@ -102,12 +86,9 @@ overflow_add-start-in-loop-left c =
 
 pub overflow_mul-start : goal.overflow_mul-start
 overflow_mul-start c =
-    let sheet : List ℕ =
-    c.args.sheet.now in
-    let count : ℕ =
-    c.count_at-count.result in
-    let next : ℕ =
-    c.loop-left.start + count_size + box_size * count in
+    let sheet : List ℕ = c.args.sheet.now in
+    let count : ℕ = c.count_at-count.result in
+    let next : ℕ = c.loop-left.start + count_size + box_size * count in
     let counts : box_count c.loop-left.left (drop c.loop-left.start sheet) ≡ count + box_count (c.loop-left.left - 1) (drop next sheet) =
     boxes_next c.loop-left.left sheet c.loop-left.start count c.loop-left-test.true c.count_at-count.ensures.0 in
     let there : next + run_size (c.loop-left.left - 1) (drop next sheet) ≤ length sheet =
@@ -116,12 +97,9 @@ overflow_mul-start c =
 
 pub overflow_add-start-in-loop-left-2 : goal.overflow_add-start-in-loop-left-2
 overflow_add-start-in-loop-left-2 c =
-    let sheet : List ℕ =
-    c.args.sheet.now in
-    let count : ℕ =
-    c.count_at-count.result in
-    let next : ℕ =
-    c.loop-left.start + count_size + box_size * count in
+    let sheet : List ℕ = c.args.sheet.now in
+    let count : ℕ = c.count_at-count.result in
+    let next : ℕ = c.loop-left.start + count_size + box_size * count in
     let counts : box_count c.loop-left.left (drop c.loop-left.start sheet) ≡ count + box_count (c.loop-left.left - 1) (drop next sheet) =
     boxes_next c.loop-left.left sheet c.loop-left.start count c.loop-left-test.true c.count_at-count.ensures.0 in
     let there : next + run_size (c.loop-left.left - 1) (drop next sheet) ≤ length sheet =
@@ -130,12 +108,9 @@ overflow_add-start-in-loop-left-2 c =
 
 pub loop-left-preserved : goal.loop-left-preserved
 loop-left-preserved c =
-    let sheet : List ℕ =
-    c.args.sheet.now in
-    let count : ℕ =
-    c.count_at-count.result in
-    let next : ℕ =
-    c.loop-left.start + count_size + box_size * count in
+    let sheet : List ℕ = c.args.sheet.now in
+    let count : ℕ = c.count_at-count.result in
+    let next : ℕ = c.loop-left.start + count_size + box_size * count in
     let counts : box_count c.loop-left.left (drop c.loop-left.start sheet) ≡ count + box_count (c.loop-left.left - 1) (drop next sheet) =
     boxes_next c.loop-left.left sheet c.loop-left.start count c.loop-left-test.true c.count_at-count.ensures.0 in
     let there : next + run_size (c.loop-left.left - 1) (drop next sheet) ≤ length sheet =

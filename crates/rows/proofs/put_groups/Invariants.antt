@@ -1,21 +1,14 @@
 -- `put_groups` meets its contract: the loop's invariant says what is left to store. Assumes nothing.
-use borrow.Author.Rules.{rules}
-use native.Mathlib.Omega.{arith}
-use mathlib.Core.Path.{◌≡◌, refl}
-use mathlib.Core.List.{List}
-use Prim.Native.Nat.{ℕ, ◌+◌, ◌*◌, ◌-◌, ◌≤◌}
+use mathlib.Core.Path.{◌≡◌}
+use Prim.Native.Nat.{◌+◌, ◌*◌, ◌≤◌}
 use lib.ListN.{length, drop}
 use lib.Seq.{sets}
 use Rattle.lists.specs.Lists.{Each}
-use Rattle.policy.specs.Fields.{box_size, count_size}
 use Rattle.policy.specs.Rules.{Proper}
 use Rattle.policy.specs.Move.{together}
-use Rattle.wire.specs.Records.{box_in, each_in, each_bytes}
 use Rattle.sheet.specs.Steps.{groups_from, box_count}
 use Rattle.kept.specs.Steps.{run_size}
-use Rattle.kept.proofs.Runs.{boxes_next}
 use Rattle.rows.specs.Steps.{row_size, rows_numbers}
-use Rattle.rows.proofs.Turns.{each_group, group_turn, groups_none}
 use Rattle.rows.proofs.put_groups.Given as goal
 
 abbrev pub invariant-loop-left : goal.invariant-loop-left

@@ -2,13 +2,7 @@
 use borrow.Author.Rules.{rules}
 use native.Mathlib.Omega.{arith}
 use mathlib.Core.Path.{◌≡◌, refl}
-use Prim.Native.Nat.{◌+◌, ◌*◌, ◌-◌, ◌≤◌}
-use lib.ListN.{length, drop, length-set}
-use lib.Seq.{sets}
-use Rattle.policy.specs.Fields.{fields}
-use Rattle.policy.specs.Rules.{Proper}
-use Rattle.policy.specs.Values.{ranges}
-use Rattle.rows.specs.Steps.{row_numbers}
+use lib.ListN.{length, length-set}
 use Rattle.rows.proofs.Rows.{field_whole, field_put, row_put}
 use Rattle.rows.proofs.put_row.Goals as goal
 

@@ -1,15 +1,12 @@
 -- `put_row` meets its contract: the loop's invariant says what is left to store. Assumes nothing.
-use borrow.Author.Rules.{rules}
-use native.Mathlib.Omega.{arith}
-use mathlib.Core.Path.{◌≡◌, refl}
+use mathlib.Core.Path.{◌≡◌}
 use Prim.Native.Nat.{◌+◌, ◌*◌, ◌-◌, ◌≤◌}
-use lib.ListN.{length, drop, length-set}
+use lib.ListN.{length, drop}
 use lib.Seq.{sets}
 use Rattle.policy.specs.Fields.{fields}
 use Rattle.policy.specs.Rules.{Proper}
 use Rattle.policy.specs.Values.{ranges}
 use Rattle.rows.specs.Steps.{row_numbers}
-use Rattle.rows.proofs.Rows.{field_whole, field_put, row_put}
 use Rattle.rows.proofs.put_row.Given as goal
 
 abbrev pub invariant-loop-k : goal.invariant-loop-k

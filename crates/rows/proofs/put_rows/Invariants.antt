@@ -1,19 +1,13 @@
 -- `put_rows` meets its contract: the loop's invariant says what is left to store. Assumes nothing.
-use borrow.Author.Rules.{rules}
-use native.Mathlib.Omega.{arith}
-use mathlib.Core.Path.{◌≡◌, refl, ap, ◌∙◌}
-use mathlib.Core.List.{List}
-use Prim.Native.Nat.{ℕ, ◌+◌, ◌*◌, ◌-◌, ◌≤◌, ◌<◌}
+use mathlib.Core.Path.{◌≡◌}
+use Prim.Native.Nat.{◌+◌, ◌*◌, ◌≤◌}
 use lib.ListN.{length, drop}
 use lib.Seq.{sets}
 use Rattle.lists.specs.Lists.{Each}
 use Rattle.policy.specs.Fields.{box_size}
-use Rattle.policy.specs.Ranges.{Region}
 use Rattle.policy.specs.Rules.{Proper}
-use Rattle.wire.specs.Records.{box_in, each_in, each_bytes}
-use Rattle.rows.specs.Steps.{row_size, row_numbers, rows_numbers}
-use Rattle.wire.proofs.Items.{each_turn, size_turn, items_none}
-use Rattle.rows.proofs.Turns.{row_turn}
+use Rattle.wire.specs.Records.{box_in, each_in}
+use Rattle.rows.specs.Steps.{row_size, rows_numbers}
 use Rattle.rows.proofs.put_rows.Given as goal
 
 abbrev pub invariant-loop-left : goal.invariant-loop-left

@@ -1,5 +1,4 @@
 -- `put_table` meets its contract. Assumes nothing.
-use borrow.Author.Rules.{rules}
 use native.Mathlib.Omega.{arith}
 use Rattle.rows.proofs.Tables.{gate_bytes_proper, own_bytes_proper, groups_proper, table_put}
 use Rattle.rows.proofs.put_table.Goals as goal

@@ -1,15 +1,11 @@
 -- `row_has` meets its contract: the loop's invariant says that the fields that are left tell the whole. Assumes nothing.
-use borrow.Author.Rules.{rules}
-use native.Mathlib.Omega.{arith}
-use mathlib.Core.Path.{◌≡◌, refl, sym, ◌∙◌}
+use mathlib.Core.Path.{◌≡◌}
 use mathlib.Core.Bool.{true}
 use Prim.Native.Nat.{◌+◌, ◌*◌, ◌-◌, ◌≤◌}
 use lib.ListN.{length, drop}
-use borrow.Author.Tests.{not-true, not-false}
 use Rattle.policy.specs.Fields.{fields, highest}
 use Rattle.policy.specs.Ranges.{inside, proper}
 use Rattle.rows.specs.Steps.{spans_in}
-use Rattle.rows.proofs.Rows.{field_small, field_has, field_misses, row_tried}
 use Rattle.rows.proofs.row_has.Given as goal
 
 abbrev pub invariant-loop-k : goal.invariant-loop-k

@@ -23,26 +23,18 @@ front_at-requires c =
 
 pub overflow_sub-count : goal.overflow_sub-count
 overflow_sub-count c =
-    let packet : Packet =
-    packet_of c.args.p in
-    let front : ℕ =
-    c.front_at-front.result in
-    let next : ℕ =
-    c.front_at.result in
-    let below : front ≤ next =
-    front_below c.requires.0 c.requires.1 packet _ c.requires.2 front next c.front_at-front.ensures c.front_at.ensures in
+    let packet : Packet = packet_of c.args.p in
+    let front : ℕ = c.front_at-front.result in
+    let next : ℕ = c.front_at.result in
+    let below : front ≤ next = front_below c.requires.0 c.requires.1 packet _ c.requires.2 front next c.front_at-front.ensures c.front_at.ensures in
     below
 
 pub overflow_add-gate : goal.overflow_add-gate
 overflow_add-gate c =
-    let packet : Packet =
-    packet_of c.args.p in
-    let front : ℕ =
-    c.front_at-front.result in
-    let next : ℕ =
-    c.front_at.result in
-    let below : front ≤ next =
-    front_below c.requires.0 c.requires.1 packet _ c.requires.2 front next c.front_at-front.ensures c.front_at.ensures in
+    let packet : Packet = packet_of c.args.p in
+    let front : ℕ = c.front_at-front.result in
+    let next : ℕ = c.front_at.result in
+    let below : front ≤ next = front_below c.requires.0 c.requires.1 packet _ c.requires.2 front next c.front_at-front.ensures c.front_at.ensures in
     let few : next ≤ limits.total =
     let h = next_few c.requires.0 c.requires.1 packet _ c.requires.2 front next c.front_at-front.ensures c.front_at.ensures in
     omega (arith, c.requires.0.laid.total_limit) in
@@ -50,14 +42,10 @@ overflow_add-gate c =
 
 pub overflow_mul-gate : goal.overflow_mul-gate
 overflow_mul-gate c =
-    let packet : Packet =
-    packet_of c.args.p in
-    let front : ℕ =
-    c.front_at-front.result in
-    let next : ℕ =
-    c.front_at.result in
-    let below : front ≤ next =
-    front_below c.requires.0 c.requires.1 packet _ c.requires.2 front next c.front_at-front.ensures c.front_at.ensures in
+    let packet : Packet = packet_of c.args.p in
+    let front : ℕ = c.front_at-front.result in
+    let next : ℕ = c.front_at.result in
+    let below : front ≤ next = front_below c.requires.0 c.requires.1 packet _ c.requires.2 front next c.front_at-front.ensures c.front_at.ensures in
     let few : next ≤ limits.total =
     let h = next_few c.requires.0 c.requires.1 packet _ c.requires.2 front next c.front_at-front.ensures c.front_at.ensures in
     omega (arith, c.requires.0.laid.total_limit) in
@@ -65,23 +53,17 @@ overflow_mul-gate c =
 
 pub first_row-number-requires : goal.first_row-number-requires
 first_row-number-requires c =
-    let packet : Packet =
-    packet_of c.args.p in
-    let front : ℕ =
-    c.front_at-front.result in
-    let next : ℕ =
-    c.front_at.result in
+    let packet : Packet = packet_of c.args.p in
+    let front : ℕ = c.front_at-front.result in
+    let next : ℕ = c.front_at.result in
     let h = group_stretch c.requires.0 c.requires.1 packet _ c.requires.2 front next c.front_at-front.ensures c.front_at.ensures in
     (h.there, h.clean)
 
 pub overflow_add-place : goal.overflow_add-place
 overflow_add-place c =
-    let packet : Packet =
-    packet_of c.args.p in
-    let front : ℕ =
-    c.front_at-front.result in
-    let next : ℕ =
-    c.front_at.result in
+    let packet : Packet = packet_of c.args.p in
+    let front : ℕ = c.front_at-front.result in
+    let next : ℕ = c.front_at.result in
     let few : next ≤ limits.total =
     let h = next_few c.requires.0 c.requires.1 packet _ c.requires.2 front next c.front_at-front.ensures c.front_at.ensures in
     omega (arith, c.requires.0.laid.total_limit) in
@@ -90,10 +72,7 @@ overflow_add-place c =
 
 pub returns : goal.returns
 returns c =
-    let packet : Packet =
-    packet_of c.args.p in
-    let front : ℕ =
-    c.front_at-front.result in
-    let next : ℕ =
-    c.front_at.result in
+    let packet : Packet = packet_of c.args.p in
+    let front : ℕ = c.front_at-front.result in
+    let next : ℕ = c.front_at.result in
     gate_traced c.requires.0 c.requires.1 packet _ c.requires.2 front next c.front_at-front.ensures c.front_at.ensures c.first_row-number.result c.first_row-number.ensures

@@ -22,14 +22,10 @@ first_row-rule-requires c =
 
 pub overflow_mul-rule : goal.overflow_mul-rule
 overflow_mul-rule c =
-    let sheet : List ℕ =
-    c.args.sheet.now in
-    let layout : PairLayout =
-    c.args.layout in
-    let packet : Packet =
-    packet_of c.args.p in
-    let rule : ℕ =
-    c.first_row-rule.result in
+    let sheet : List ℕ = c.args.sheet.now in
+    let layout : PairLayout = c.args.layout in
+    let packet : Packet = packet_of c.args.p in
+    let rule : ℕ = c.first_row-rule.result in
     let number : rule ≡ box_number packet (each_in record_size box_in layout.order.own (drop (layout.order.middle + count_size) sheet)) =
     c.first_row-rule.ensures ∙ ap (box_number packet) ((own_stretch c.requires.0 c.requires.1).rows ∙ own_boxes c.requires.0) in
     let inside : layout.order.middle + count_size + record_size * rule + record_size ≤ length sheet =
@@ -40,14 +36,10 @@ overflow_mul-rule c =
 
 pub overflow_add-layout-3 : goal.overflow_add-layout-3
 overflow_add-layout-3 c =
-    let sheet : List ℕ =
-    c.args.sheet.now in
-    let layout : PairLayout =
-    c.args.layout in
-    let packet : Packet =
-    packet_of c.args.p in
-    let rule : ℕ =
-    c.first_row-rule.result in
+    let sheet : List ℕ = c.args.sheet.now in
+    let layout : PairLayout = c.args.layout in
+    let packet : Packet = packet_of c.args.p in
+    let rule : ℕ = c.first_row-rule.result in
     let number : rule ≡ box_number packet (each_in record_size box_in layout.order.own (drop (layout.order.middle + count_size) sheet)) =
     c.first_row-rule.ensures ∙ ap (box_number packet) ((own_stretch c.requires.0 c.requires.1).rows ∙ own_boxes c.requires.0) in
     let inside : layout.order.middle + count_size + record_size * rule + record_size ≤ length sheet =
@@ -58,14 +50,10 @@ overflow_add-layout-3 c =
 
 pub rule_at-record-requires : goal.rule_at-record-requires
 rule_at-record-requires c =
-    let sheet : List ℕ =
-    c.args.sheet.now in
-    let layout : PairLayout =
-    c.args.layout in
-    let packet : Packet =
-    packet_of c.args.p in
-    let rule : ℕ =
-    c.first_row-rule.result in
+    let sheet : List ℕ = c.args.sheet.now in
+    let layout : PairLayout = c.args.layout in
+    let packet : Packet = packet_of c.args.p in
+    let rule : ℕ = c.first_row-rule.result in
     let number : rule ≡ box_number packet (each_in record_size box_in layout.order.own (drop (layout.order.middle + count_size) sheet)) =
     c.first_row-rule.ensures ∙ ap (box_number packet) ((own_stretch c.requires.0 c.requires.1).rows ∙ own_boxes c.requires.0) in
     let inside : layout.order.middle + count_size + record_size * rule + record_size ≤ length sheet =
@@ -76,14 +64,10 @@ rule_at-record-requires c =
 
 pub overflow_add-place : goal.overflow_add-place
 overflow_add-place c =
-    let sheet : List ℕ =
-    c.args.sheet.now in
-    let layout : PairLayout =
-    c.args.layout in
-    let packet : Packet =
-    packet_of c.args.p in
-    let rule : ℕ =
-    c.first_row-rule.result in
+    let sheet : List ℕ = c.args.sheet.now in
+    let layout : PairLayout = c.args.layout in
+    let packet : Packet = packet_of c.args.p in
+    let rule : ℕ = c.first_row-rule.result in
     let number : rule ≡ box_number packet (each_in record_size box_in layout.order.own (drop (layout.order.middle + count_size) sheet)) =
     c.first_row-rule.ensures ∙ ap (box_number packet) ((own_stretch c.requires.0 c.requires.1).rows ∙ own_boxes c.requires.0) in
     let inside : layout.order.middle + count_size + record_size * rule + record_size ≤ length sheet =
@@ -96,14 +80,10 @@ overflow_add-place c =
 
 pub returns : goal.returns
 returns c =
-    let packet : Packet =
-    packet_of c.args.p in
-    let rule : ℕ =
-    c.first_row-rule.result in
-    let sheet : List ℕ =
-    c.args.sheet.now in
-    let layout : PairLayout =
-    c.args.layout in
+    let packet : Packet = packet_of c.args.p in
+    let rule : ℕ = c.first_row-rule.result in
+    let sheet : List ℕ = c.args.sheet.now in
+    let layout : PairLayout = c.args.layout in
     let number : rule ≡ box_number packet (each_in record_size box_in layout.order.own (drop (layout.order.middle + count_size) sheet)) =
     c.first_row-rule.ensures ∙ ap (box_number packet) ((own_stretch c.requires.0 c.requires.1).rows ∙ own_boxes c.requires.0) in
     own_traced c.requires.0 packet _ c.requires.2 rule number (rule_of c.rule_at-record.result) c.rule_at-record.ensures

@@ -25,32 +25,22 @@ first_row-rule-requires c =
 
 pub returns-then-rule-count : goal.returns-then-rule-count
 returns-then-rule-count c =
-    let sheet : List ℕ =
-    c.args.sheet.now in
-    let layout : PairLayout =
-    c.args.layout in
-    let checked : Checked sheet layout =
-    c.requires.0 in
-    let packet : Packet =
-    packet_of c.args.p in
-    let rule : ℕ =
-    c.first_row-rule.result in
+    let sheet : List ℕ = c.args.sheet.now in
+    let layout : PairLayout = c.args.layout in
+    let checked : Checked sheet layout = c.requires.0 in
+    let packet : Packet = packet_of c.args.p in
+    let rule : ℕ = c.first_row-rule.result in
     let number : rule ≡ box_number packet (each_in record_size box_in layout.order.gate (drop count_size sheet)) =
     c.first_row-rule.ensures ∙ ap (box_number packet) ((gate_stretch checked c.requires.1).rows ∙ gate_boxes checked) in
     nowhere checked packet rule number c.if-rule-count.true
 
 pub overflow_mul-rule : goal.overflow_mul-rule
 overflow_mul-rule c =
-    let sheet : List ℕ =
-    c.args.sheet.now in
-    let layout : PairLayout =
-    c.args.layout in
-    let checked : Checked sheet layout =
-    c.requires.0 in
-    let packet : Packet =
-    packet_of c.args.p in
-    let rule : ℕ =
-    c.first_row-rule.result in
+    let sheet : List ℕ = c.args.sheet.now in
+    let layout : PairLayout = c.args.layout in
+    let checked : Checked sheet layout = c.requires.0 in
+    let packet : Packet = packet_of c.args.p in
+    let rule : ℕ = c.first_row-rule.result in
     let number : rule ≡ box_number packet (each_in record_size box_in layout.order.gate (drop count_size sheet)) =
     c.first_row-rule.ensures ∙ ap (box_number packet) ((gate_stretch checked c.requires.1).rows ∙ gate_boxes checked) in
     let inside : (rule ≡ layout.order.gate → ⊥) → count_size + record_size * rule + record_size ≤ length sheet =
@@ -62,16 +52,11 @@ overflow_mul-rule c =
 
 pub overflow_add-rule : goal.overflow_add-rule
 overflow_add-rule c =
-    let sheet : List ℕ =
-    c.args.sheet.now in
-    let layout : PairLayout =
-    c.args.layout in
-    let checked : Checked sheet layout =
-    c.requires.0 in
-    let packet : Packet =
-    packet_of c.args.p in
-    let rule : ℕ =
-    c.first_row-rule.result in
+    let sheet : List ℕ = c.args.sheet.now in
+    let layout : PairLayout = c.args.layout in
+    let checked : Checked sheet layout = c.requires.0 in
+    let packet : Packet = packet_of c.args.p in
+    let rule : ℕ = c.first_row-rule.result in
     let number : rule ≡ box_number packet (each_in record_size box_in layout.order.gate (drop count_size sheet)) =
     c.first_row-rule.ensures ∙ ap (box_number packet) ((gate_stretch checked c.requires.1).rows ∙ gate_boxes checked) in
     let inside : (rule ≡ layout.order.gate → ⊥) → count_size + record_size * rule + record_size ≤ length sheet =
@@ -83,16 +68,11 @@ overflow_add-rule c =
 
 pub rule_at-record-requires : goal.rule_at-record-requires
 rule_at-record-requires c =
-    let sheet : List ℕ =
-    c.args.sheet.now in
-    let layout : PairLayout =
-    c.args.layout in
-    let checked : Checked sheet layout =
-    c.requires.0 in
-    let packet : Packet =
-    packet_of c.args.p in
-    let rule : ℕ =
-    c.first_row-rule.result in
+    let sheet : List ℕ = c.args.sheet.now in
+    let layout : PairLayout = c.args.layout in
+    let checked : Checked sheet layout = c.requires.0 in
+    let packet : Packet = packet_of c.args.p in
+    let rule : ℕ = c.first_row-rule.result in
     let number : rule ≡ box_number packet (each_in record_size box_in layout.order.gate (drop count_size sheet)) =
     c.first_row-rule.ensures ∙ ap (box_number packet) ((gate_stretch checked c.requires.1).rows ∙ gate_boxes checked) in
     let inside : (rule ≡ layout.order.gate → ⊥) → count_size + record_size * rule + record_size ≤ length sheet =
@@ -104,16 +84,11 @@ rule_at-record-requires c =
 
 pub trace_own-requires : goal.trace_own-requires
 trace_own-requires c =
-    let sheet : List ℕ =
-    c.args.sheet.now in
-    let layout : PairLayout =
-    c.args.layout in
-    let checked : Checked sheet layout =
-    c.requires.0 in
-    let packet : Packet =
-    packet_of c.args.p in
-    let rule : ℕ =
-    c.first_row-rule.result in
+    let sheet : List ℕ = c.args.sheet.now in
+    let layout : PairLayout = c.args.layout in
+    let checked : Checked sheet layout = c.requires.0 in
+    let packet : Packet = packet_of c.args.p in
+    let rule : ℕ = c.first_row-rule.result in
     let number : rule ≡ box_number packet (each_in record_size box_in layout.order.gate (drop count_size sheet)) =
     c.first_row-rule.ensures ∙ ap (box_number packet) ((gate_stretch checked c.requires.1).rows ∙ gate_boxes checked) in
     let decided : first packet (pair_at layout sheet).order.gate ≡ found rule (rule_of c.rule_at-record.result).action =
@@ -122,16 +97,11 @@ trace_own-requires c =
 
 pub trace_gate-requires : goal.trace_gate-requires
 trace_gate-requires c =
-    let sheet : List ℕ =
-    c.args.sheet.now in
-    let layout : PairLayout =
-    c.args.layout in
-    let checked : Checked sheet layout =
-    c.requires.0 in
-    let packet : Packet =
-    packet_of c.args.p in
-    let rule : ℕ =
-    c.first_row-rule.result in
+    let sheet : List ℕ = c.args.sheet.now in
+    let layout : PairLayout = c.args.layout in
+    let checked : Checked sheet layout = c.requires.0 in
+    let packet : Packet = packet_of c.args.p in
+    let rule : ℕ = c.first_row-rule.result in
     let number : rule ≡ box_number packet (each_in record_size box_in layout.order.gate (drop count_size sheet)) =
     c.first_row-rule.ensures ∙ ap (box_number packet) ((gate_stretch checked c.requires.1).rows ∙ gate_boxes checked) in
     let decided : first packet (pair_at layout sheet).order.gate ≡ found rule (rule_of c.rule_at-record.result).action =

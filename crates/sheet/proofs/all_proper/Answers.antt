@@ -1,11 +1,11 @@
 -- `all_proper` tests every box in turn: what is left to test decides. Assumes nothing.
 use borrow.Author.Rules.{rules}
 use native.Mathlib.Omega.{arith}
-use mathlib.Core.Path.{◌≡◌, ap, sym, ◌∙◌}
-use Prim.Native.Nat.{ℕ, ◌+◌, ◌*◌, ◌-◌, ◌≤◌}
-use lib.ListN.{length, drop}
+use mathlib.Core.Path.{ap, sym, ◌∙◌}
+use Prim.Native.Nat.{ℕ}
+use lib.ListN.{drop}
 use Rattle.lists.specs.Lists.{every}
-use Rattle.policy.specs.Fields.{count_size, box_size, highest}
+use Rattle.policy.specs.Fields.{count_size, highest}
 use Rattle.policy.specs.Ranges.{proper}
 use Rattle.wire.specs.Records.{boxes_in}
 use Rattle.sheet.proofs.Loops.{boxes_left, no_boxes, every_stops, every_goes, every_ends}

@@ -1,15 +1,12 @@
 -- `all_sound` tests every rule in turn: what is left to test decides. Assumes nothing.
-use borrow.Author.Rules.{rules}
-use native.Mathlib.Omega.{arith}
-use mathlib.Core.Path.{◌≡◌, ap, sym, ◌∙◌}
-use Prim.Native.Nat.{ℕ, ◌+◌, ◌*◌, ◌-◌, ◌≤◌}
+use mathlib.Core.Path.{◌≡◌}
+use Prim.Native.Nat.{◌+◌, ◌*◌, ◌-◌, ◌≤◌}
 use lib.ListN.{length, drop}
 use Rattle.lists.specs.Lists.{every}
-use Rattle.policy.specs.Fields.{count_size, record_size}
+use Rattle.policy.specs.Fields.{record_size}
 use Rattle.policy.specs.Rules.{sound}
 use Rattle.wire.specs.Records.{rules_in}
 use Rattle.sheet.specs.Steps.{rules_of}
-use Rattle.sheet.proofs.Loops.{rules_left, no_rules, every_stops, every_goes, every_ends}
 use Rattle.sheet.proofs.all_sound.Given as goal
 
 abbrev pub invariant-loop-i : goal.invariant-loop-i

@@ -1,14 +1,12 @@
 -- `count_denies` counts the deny rules: those counted, and those among the rules that are left. Assumes nothing.
 use borrow.Author.Rules.{rules}
 use native.Mathlib.Omega.{arith}
-use mathlib.Core.Logic.{⊎_elim}
 use mathlib.Core.Path.{◌≡◌, ap, ◌∙◌}
-use Prim.Native.Nat.{ℕ, ◌+◌, ◌*◌, ◌-◌, ◌≤◌}
-use lib.ListN.{length, drop}
-use Rattle.policy.specs.Fields.{count_size, record_size}
+use Prim.Native.Nat.{ℕ, ◌-◌}
+use lib.ListN.{drop}
+use Rattle.policy.specs.Fields.{count_size}
 use Rattle.policy.specs.Rules.{Rule, is_allow, denies}
 use Rattle.wire.specs.Records.{rules_in}
-use Rattle.sheet.specs.Steps.{rules_of}
 use Rattle.sheet.proofs.Loops.{rules_left, no_rules, deny_counts, allow_skips, no_denies}
 use Rattle.sheet.proofs.count_denies.Goals as goal
 use Rattle.sheet.proofs.count_denies.Goals.{else-not-is_allow, then-not-is_allow}

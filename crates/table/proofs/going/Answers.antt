@@ -1,5 +1,4 @@
 -- `going` meets its contract. Assumes nothing.
-use borrow.Author.Rules.{rules}
 use mathlib.Core.Path.{refl}
 use borrow.Author.Tests.{lt-ltb, le-ltb}
 use Rattle.filter.specs.Lookup.{lookup_number}

@@ -1,5 +1,4 @@
 -- `judge` meets its contract, return by return. Assumes nothing.
-use borrow.Author.Rules.{rules}
 use native.Mathlib.Omega.{arith}
 use mathlib.Core.Path.{◌≡◌, sym, ◌∙◌}
 use mathlib.Core.Bool.{true}
@@ -19,28 +18,24 @@ returns-then-not-is_sound c =
 
 pub is_inside-requires : goal.is_inside-requires
 is_inside-requires c =
-    let is-well : sound (rule_of c.args.r) ≡ true =
-    sym c.is_sound.ensures ∙ not-false _ c.if-not-is_sound.false-raw in
+    let is-well : sound (rule_of c.args.r) ≡ true = sym c.is_sound.ensures ∙ not-false _ c.if-not-is_sound.false-raw in
     let r = c.args.r in
     proper_whole highest (region_of r.bounds) (rule_proper (rule_of r) is-well)
 
 pub overflow_add-result : goal.overflow_add-result
 overflow_add-result c =
-    let is-well : sound (rule_of c.args.r) ≡ true =
-    sym c.is_sound.ensures ∙ not-false _ c.if-not-is_sound.false-raw in
+    let is-well : sound (rule_of c.args.r) ≡ true = sym c.is_sound.ensures ∙ not-false _ c.if-not-is_sound.false-raw in
     let h = sound_action (rule_of c.args.r) is-well in
     omega arith
 
 pub returns-then-is_inside : goal.returns-then-is_inside
 returns-then-is_inside c =
-    let is-well : sound (rule_of c.args.r) ≡ true =
-    sym c.is_sound.ensures ∙ not-false _ c.if-not-is_sound.false-raw in
+    let is-well : sound (rule_of c.args.r) ≡ true = sym c.is_sound.ensures ∙ not-false _ c.if-not-is_sound.false-raw in
     let a = c.args in
     judged_fits a.i (packet_of a.p) (rule_of a.r) is-well (sym c.is_inside.ensures ∙ c.if-is_inside.true)
 
 pub returns : goal.returns
 returns c =
-    let is-well : sound (rule_of c.args.r) ≡ true =
-    sym c.is_sound.ensures ∙ not-false _ c.if-not-is_sound.false-raw in
+    let is-well : sound (rule_of c.args.r) ≡ true = sym c.is_sound.ensures ∙ not-false _ c.if-not-is_sound.false-raw in
     let a = c.args in
     c.refused_number-2.ensures ∙ judged_misses a.i (packet_of a.p) (rule_of a.r) is-well (sym c.is_inside.ensures ∙ c.if-is_inside.false)

@@ -1,10 +1,10 @@
 -- `lookup_number` meets its contract, by the laws on a turn, said of the slice and not of the list of its rules. Assumes nothing.
-use Rattle.std.proofs.Common.{◌≡◌, ◌<◌, ◌∙◌, length, map, sym, ap, arith}
+use Rattle.std.proofs.Common.{◌∙◌, length, map, sym, ap, arith}
 use lib.ListN.{length-map, get_or-map}
 use Rattle.policy.specs.Fields.{limits}
 use Rattle.policy.specs.Values.{rule_of, packet_of}
-use Rattle.table.specs.Steps.{blank, going_on}
-use Rattle.table.proofs.Turns.{judged, Reached, going_within, reached_first, reached_next, reached_last}
+use Rattle.table.specs.Steps.{blank}
+use Rattle.table.proofs.Turns.{judged, going_within, reached_first, reached_next, reached_last}
 use Rattle.table.proofs.lookup_number.Goals as goal
 
 pub loop-answer-init : goal.loop-answer-init

@@ -1,5 +1,4 @@
 -- `opening` meets its contract, return by return. Assumes nothing.
-use borrow.Author.Rules.{rules}
 use mathlib.Core.Path.{◌∙◌}
 use native.Mathlib.Omega.{arith}
 use Rattle.policy.specs.Fields.{limits}

@@ -1,14 +1,11 @@
 -- `box_at` meets its contract: the loop's invariant says that what is read and what is left of the bytes give the whole box. Assumes nothing.
-use borrow.Author.Rules.{rules}
-use native.Mathlib.Omega.{arith}
-use mathlib.Core.Path.{◌≡◌, refl}
+use mathlib.Core.Path.{◌≡◌}
 use mathlib.Core.List.{◌++◌}
-use Prim.Native.Nat.{◌+◌, ◌-◌, ◌≤◌, ◌<◌}
+use Prim.Native.Nat.{◌+◌, ◌-◌, ◌≤◌}
 use lib.ListN.{length, take, drop}
 use Rattle.policy.specs.Fields.{fields, widths, size_of}
 use Rattle.policy.specs.Values.{ranges}
 use Rattle.wire.specs.Records.{ranges_in}
-use Rattle.wire.proofs.Steps.{size_step, width_at, read_next, read_last}
 use Rattle.wire.proofs.box_at.Given as goal
 
 abbrev pub invariant-loop-k : goal.invariant-loop-k

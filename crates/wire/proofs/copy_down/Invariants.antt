@@ -1,11 +1,8 @@
 -- `copy_down` meets its contract: the loop's invariant says that the bytes before byte i are copied. Assumes nothing.
-use borrow.Author.Rules.{rules}
-use mathlib.Core.Path.{◌≡◌, refl, ap, ◌∙◌}
-use Prim.Native.Nat.{ℕ, ◌+◌, ◌-◌, ◌<◌, ◌≤◌}
-use native.Mathlib.Omega.{arith}
+use mathlib.Core.Path.{◌≡◌}
+use Prim.Native.Nat.{◌-◌, ◌≤◌}
 use lib.ListN.{length}
 use Rattle.wire.specs.Steps.{copied_down}
-use Rattle.wire.proofs.Copies.{down_none, down_read, down_next}
 use Rattle.wire.proofs.copy_down.Given as goal
 
 abbrev pub invariant-loop-i : goal.invariant-loop-i

@@ -1,10 +1,8 @@
 -- `copy_up` meets its contract: the loop's invariant says that the bytes from byte i on are copied. Assumes nothing.
-use borrow.Author.Rules.{rules}
-use mathlib.Core.Path.{◌≡◌, refl, ap, ◌∙◌}
-use Prim.Native.Nat.{ℕ, suc, ◌+◌, ◌-◌, ◌<◌, ◌≤◌}
-use native.Mathlib.Omega.{arith}
+use mathlib.Core.Path.{◌≡◌}
+use Prim.Native.Nat.{◌≤◌}
 use lib.ListN.{length}
-use Rattle.wire.proofs.Copies.{up_to, up_none, up_read, up_next, up_all}
+use Rattle.wire.proofs.Copies.{up_to}
 use Rattle.wire.proofs.copy_up.Given as goal
 
 abbrev pub invariant-loop-i : goal.invariant-loop-i

@@ -1,7 +1,6 @@
 -- `fill` meets its contract: content copied to the front, then zero behind it. Assumes nothing.
 use native.Mathlib.Omega.{arith}
 use mathlib.Core.Path.{refl, sym, ◌∙◌}
-use lib.ListN.{length}
 use Rattle.lists.proofs.Parts.{put_part, copied_sets}
 use Rattle.wire.proofs.Buffers.{filled_is}
 use Rattle.wire.proofs.fill.Goals as goal

@@ -1,5 +1,4 @@
 -- `four_at` meets its contract: the number is read byte by byte. Assumes nothing.
-use borrow.Author.Rules.{rules}
 use native.Mathlib.Omega.{arith}
 use Rattle.wire.proofs.Numbers.{four_bytes}
 use Rattle.wire.proofs.four_at.Goals as goal

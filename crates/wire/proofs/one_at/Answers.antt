@@ -1,5 +1,4 @@
 -- `one_at` meets its contract: the number is the byte. Assumes nothing.
-use borrow.Author.Rules.{rules}
 use native.Mathlib.Omega.{arith}
 use Rattle.wire.proofs.Numbers.{one_byte}
 use Rattle.wire.proofs.one_at.Goals as goal

@@ -1,5 +1,4 @@
 -- `put_box` meets its contract: all fields are written. Assumes nothing.
-use borrow.Author.Rules.{rules}
 use Rattle.wire.proofs.put_box.Goals as goal
 
 pub returns : goal.returns

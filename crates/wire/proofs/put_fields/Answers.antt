@@ -2,13 +2,9 @@
 use borrow.Author.Rules.{rules}
 use native.Mathlib.Omega.{arith}
 use mathlib.Core.Path.{◌≡◌, refl, ap}
-use mathlib.Core.Logic.{⊎_elim}
-use Prim.Native.Nat.{◌+◌, ◌-◌, ◌≤◌, ◌<◌}
-use lib.ListN.{length, take, drop}
-use lib.Seq.{sets}
-use Rattle.policy.specs.Fields.{fields, widths, size_of}
-use Rattle.policy.specs.Values.{ranges}
-use Rattle.wire.specs.Records.{ranges_bytes}
+use Prim.Native.Nat.{◌<◌}
+use lib.ListN.{length}
+use Rattle.policy.specs.Fields.{fields, widths}
 use Rattle.wire.proofs.Steps.{size_step, width_at, fields_next, fields_past, fields_last}
 use Rattle.wire.proofs.put_fields.Goals as goal
 use Rattle.wire.proofs.put_fields.Goals.{then-k-n, else-k-n}
@@ -50,7 +46,7 @@ loop-k-preserved c =
     let l : length a.b.low ≡ fields = search rules in
     let r : length a.b.high ≡ fields = search rules in
     elim c.if-k-n.branch [
-      then-k-n w ↦ (
+      | then-k-n w ↦ (
         omega arith,
         omega (arith, ap length w.out-is),
         omega (arith, ap length w.out-is),

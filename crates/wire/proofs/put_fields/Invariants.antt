@@ -1,15 +1,11 @@
 -- `put_fields` meets its contract: the loop's invariant says that what is left to store gives the first n fields. Assumes nothing.
-use borrow.Author.Rules.{rules}
-use native.Mathlib.Omega.{arith}
-use mathlib.Core.Path.{◌≡◌, refl, ap}
-use mathlib.Core.Logic.{⊎_elim}
-use Prim.Native.Nat.{◌+◌, ◌-◌, ◌≤◌, ◌<◌}
+use mathlib.Core.Path.{◌≡◌}
+use Prim.Native.Nat.{◌+◌, ◌-◌, ◌≤◌}
 use lib.ListN.{length, take, drop}
 use lib.Seq.{sets}
 use Rattle.policy.specs.Fields.{fields, widths, size_of}
 use Rattle.policy.specs.Values.{ranges}
 use Rattle.wire.specs.Records.{ranges_bytes}
-use Rattle.wire.proofs.Steps.{size_step, width_at, fields_next, fields_past, fields_last}
 use Rattle.wire.proofs.put_fields.Given as goal
 
 abbrev pub invariant-loop-k : goal.invariant-loop-k

@@ -1,5 +1,4 @@
 -- `put_number` meets its contract: a width is 4, 2 or 1. Assumes nothing.
-use borrow.Author.Rules.{rules}
 use native.Mathlib.Omega.{arith}
 use Rattle.wire.proofs.Numbers.{last_width}
 use Rattle.wire.proofs.put_number.Goals as goal

@@ -1,5 +1,4 @@
 -- `put_one` meets its contract: the byte is stored. Assumes nothing.
-use borrow.Author.Rules.{rules}
 use mathlib.Core.Path.{refl}
 use Rattle.wire.specs.Numbers.{number_bytes}
 use Rattle.wire.proofs.put_one.Goals as goal

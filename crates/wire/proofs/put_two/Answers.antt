@@ -1,5 +1,4 @@
 -- `put_two` meets its contract: the bytes are stored one by one, from the number that has them in the other order. Assumes nothing.
-use borrow.Author.Rules.{rules}
 use mathlib.Core.Path.{ap}
 use lib.ListN.{length-set}
 use lib.Seq.{sets}

@@ -1,5 +1,4 @@
 -- `rule_at` meets its contract. Assumes nothing.
-use borrow.Author.Rules.{rules}
 use Rattle.policy.specs.Values.{region_of}
 use Rattle.wire.proofs.Steps.{rule_read}
 use Rattle.wire.proofs.rule_at.Goals as goal

@@ -1,5 +1,4 @@
 -- `turned_four` meets its contract. Assumes nothing.
-use borrow.Author.Rules.{rules}
 use Rattle.wire.proofs.Numbers.{turned_four}
 use Rattle.wire.proofs.turned_four.Goals as goal
 

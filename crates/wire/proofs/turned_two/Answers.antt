@@ -1,5 +1,4 @@
 -- `turned_two` meets its contract. Assumes nothing.
-use borrow.Author.Rules.{rules}
 use Rattle.wire.proofs.Numbers.{turned_two}
 use Rattle.wire.proofs.turned_two.Goals as goal
 

@@ -1,5 +1,4 @@
 -- `two_at` meets its contract: the number is read byte by byte. Assumes nothing.
-use borrow.Author.Rules.{rules}
 use native.Mathlib.Omega.{arith}
 use Rattle.wire.proofs.Numbers.{two_bytes}
 use Rattle.wire.proofs.two_at.Goals as goal

@@ -2,8 +2,7 @@
 use borrow.Author.Rules.{rules}
 use native.Mathlib.Omega.{arith}
 use mathlib.Core.Path.{◌≡◌, refl, ap, ◌∙◌}
-use Prim.Native.Nat.{ℕ, ◌-◌, ◌≤◌}
-use lib.ListN.{length}
+use Prim.Native.Nat.{ℕ}
 use Rattle.wire.specs.Buffers.{zeroed}
 use Rattle.wire.proofs.Buffers.{zeroed_none, zeroed_next}
 use Rattle.wire.proofs.zero.Goals as goal

@@ -1,11 +1,8 @@
 -- `zero` meets its contract: the loop's invariant says up to where the bytes are zero. Assumes nothing.
-use borrow.Author.Rules.{rules}
-use native.Mathlib.Omega.{arith}
-use mathlib.Core.Path.{◌≡◌, refl, ap, ◌∙◌}
-use Prim.Native.Nat.{ℕ, ◌-◌, ◌≤◌}
+use mathlib.Core.Path.{◌≡◌}
+use Prim.Native.Nat.{◌-◌, ◌≤◌}
 use lib.ListN.{length}
 use Rattle.wire.specs.Buffers.{zeroed}
-use Rattle.wire.proofs.Buffers.{zeroed_none, zeroed_next}
 use Rattle.wire.proofs.zero.Given as goal
 
 abbrev pub invariant-loop-i : goal.invariant-loop-i

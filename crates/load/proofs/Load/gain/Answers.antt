@@ -1,5 +1,5 @@
 -- `gain` meets its contract. Assumes nothing.
-use Rattle.std.proofs.Common.{◌≡◌, sym, refl, ◌∙◌, rules}
+use Rattle.std.proofs.Common.{◌≡◌, sym, refl, ◌∙◌}
 use native.Mathlib.Nat.{div-zero}
 use Rattle.load.specs.Load.{common, gain_of}
 use Rattle.load.proofs.Load.gain.Goals as goal

@@ -1,5 +1,5 @@
 -- `plus` meets its contract. Assumes nothing.
-use Rattle.std.proofs.Common.{refl, rules}
+use Rattle.std.proofs.Common.{refl}
 use Rattle.load.specs.Load.{plus}
 use Rattle.load.proofs.Load.plus.Goals as goal
 

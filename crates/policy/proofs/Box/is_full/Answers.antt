@@ -4,13 +4,10 @@ use borrow.Author.Count.{below_more}
 use borrow.Author.Tests.{not-true, not-false}
 use native.Mathlib.Omega.{arith}
 use mathlib.Core.Path.{◌≡◌, ap, sym, ◌∙◌}
-use mathlib.Core.Bool.{true}
-use Prim.Native.Nat.{ℕ, ◌-◌, ◌≤◌, ◌<◌}
 use lib.ListN.{length, get_or}
 use Rattle.policy.specs.Fields.{fields, highest}
 use Rattle.policy.specs.Ranges.{range, Region, full_range}
 use Rattle.policy.specs.Values.{region_of}
-use Rattle.policy.specs.Steps.{range_at}
 use Rattle.lists.proofs.Both.{fails_at, holds_of_each}
 use Rattle.policy.proofs.Values.{ranges-length, range_read}
 use Rattle.policy.proofs.Box.is_full.Goals as goal

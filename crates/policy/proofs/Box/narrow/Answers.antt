@@ -1,13 +1,9 @@
 -- `Box::narrow` meets its contract: the loop's invariant says whether field k has been passed. Assumes nothing.
 use borrow.Author.Rules.{rules}
 use native.Mathlib.Omega.{arith}
-use mathlib.Core.Path.{◌≡◌, ap, sym, ◌∙◌}
-use mathlib.Core.Bool.{cond}
-use mathlib.Core.Logic.{⊎_elim}
-use Prim.Native.Nat.{ℕ, ◌+◌, ◌-◌, ◌≤◌}
-use lib.Dec.{ltb}
+use mathlib.Core.Path.{ap, sym, ◌∙◌}
+use Prim.Native.Nat.{ℕ, ◌+◌}
 use lib.ListN.{set}
-use Rattle.policy.specs.Fields.{fields}
 use Rattle.policy.specs.Ranges.{range, Region}
 use Rattle.policy.specs.Values.{region_of}
 use Rattle.policy.proofs.Values.{ranges-set, walk_before, walk_after, walk_past}

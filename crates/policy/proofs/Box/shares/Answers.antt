@@ -4,15 +4,12 @@ use borrow.Author.Count.{below_more}
 use borrow.Author.Tests.{not-true, not-false}
 use native.Mathlib.Omega.{arith}
 use mathlib.Core.Path.{◌≡◌, ap₂, sym, ◌∙◌}
-use mathlib.Core.Bool.{true}
-use Prim.Native.Nat.{ℕ, ◌-◌, ◌≤◌, ◌<◌}
 use lib.ListN.{length}
 use Rattle.lists.proofs.Both.{fails_at, holds_of_each}
 use Rattle.policy.specs.Fields.{fields}
 use Rattle.policy.specs.Ranges.{range, Region}
 use Rattle.policy.specs.Cut.{meets}
 use Rattle.policy.specs.Values.{region_of}
-use Rattle.policy.specs.Steps.{range_at}
 use Rattle.policy.proofs.Values.{ranges-length, range_read}
 use Rattle.policy.proofs.Box.shares.Goals as goal
 use Rattle.policy.proofs.Box.shares.Invariants.{MeetAt}

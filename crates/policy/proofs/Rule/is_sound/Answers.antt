@@ -1,5 +1,4 @@
 -- `Rule::is_sound` meets its contract. Assumes nothing.
-use borrow.Author.Rules.{rules}
 use mathlib.Core.Path.{sym, ◌∙◌}
 use Rattle.policy.specs.Rules.{sound}
 use Rattle.policy.proofs.Rule.is_sound.Goals as goal
