@@ -1,4 +1,4 @@
-// The lookup in a table of rules in memory, for C. It is lent the slice and is walked by hand.
+// The lookup in a table of rules in memory, as C has it: it is lent the slice.
 ghost use Rattle.std.specs.Prelude.{◌≡◌, [], ◌∷◌, map};
 ghost use Rattle.policy.specs.Fields.{limits};
 ghost use Rattle.policy.specs.Values.{rule_of};

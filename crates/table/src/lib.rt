@@ -1,5 +1,5 @@
-// Lookup of a packet in a table of rules in memory. `judge_at` and `lookup_number` are lent the slice and are walked by hand;
-// they are thin, and what they decide stands in the functions before them.
+// Lookup of a packet in a table of rules in memory. `judge_at` and `lookup_number` are lent the slice; they are thin, and what they
+// decide stands in the functions before them.
 #![tactic(auto)]
 
 ghost use Rattle.std.specs.Prelude.{◌≡◌, [], ◌∷◌, map, ◌<◌, length, get_or};

@@ -1,3 +1,4 @@
+-- `tell` meets its contract, arm by arm. (The numbers written are asked for by all that is known of a trace, so that a must-fail edit
 -- that writes another one of them fails for what is written.) Assumes nothing.
 use borrow.Author.Rules.{rules}
 use native.Mathlib.Omega.{arith}

@@ -1,3 +1,4 @@
+-- `Box::high_at` meets its contract: the high is that of the range at the field. Assumes nothing.
 use borrow.Author.Rules.{rules}
 use lib.ListN.{length}
 use mathlib.Core.Path.{◌≡◌, ap, sym, ◌∙◌}
