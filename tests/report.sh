@@ -191,6 +191,15 @@ for name in "$made/not there" "$made/folder" ''; do
     says "later readings '$name'" "cannot read $name" $sheet $ten $earlier "$name"
 done
 
+# Names longer than any path, of which 4,096 bytes are printed; and a file that is there, whose name is not UTF-8.
+for length in 4095 4096 4097 6000; do
+    name=$(head -c $length /dev/zero | tr '\0' x)
+    says "a name of $length bytes" "cannot read $(printf %s "$name" | head -c 4096)" $sheet "$name" $earlier $later
+done
+name=$made/$(printf 'na\377me')
+cp $ten "$name"
+says 'a name that is not UTF-8' "cannot read $name" $sheet "$name" $earlier $later
+
 # Two things wrong at once: all four are opened first, then come sheet, readings, packets.
 says 'nothing there' 'cannot read 1' 1 2 3 4
 says 'packets not there, a stale sheet' "cannot read $made/none" "$made/stale" "$made/none" $earlier $later
