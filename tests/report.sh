@@ -1,8 +1,7 @@
 #!/bin/sh
 # Builds the program report and runs it on stored cases. What it prints has to be the same byte for byte; the first case that differs is
 # named. Most cases are of the dairy example, whose cell list has five places. The bytes in
-# tests/report were made by `foldplover packets` and `foldplover readings` from the readable files beside them, dairy.pair by the
-# second program.
+# tests/report were made by examples/make.py from the readable files beside them, dairy.pair by the second program.
 set -eu
 cd "$(dirname "$0")/.."
 tests/build report
