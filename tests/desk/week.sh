@@ -8,7 +8,8 @@ rm -rf "$made"
 mkdir -p "$made/bin" "$made/plant"
 printf '#!/bin/sh\nexec "%s/tests/x86" run "%s/target/foldplover" "$@"\n' "$root" "$root" >"$made/bin/foldplover"
 chmod +x "$made/bin/foldplover"
-cp examples/plant.* examples/labels/plant.txt "$made/plant"
+cp examples/plant.* "$made/plant"
+cp examples/labels/plant.txt "$made/plant"
 
 # The page with what its commands print now.
 printed() {
