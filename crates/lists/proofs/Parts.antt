@@ -37,11 +37,3 @@ module _ {A : Type 0} where
   -- a part in the middle that a copy fills is stores where it begins
   pub put_part : (c y v : List A) (m k : ℕ) → k ≡ length v → m + length v ≤ length c → y ≡ v → take m c ++ (y ++ drop k (drop m c)) ≡ sets c m v
   put_part c y v m k e h w = rw (w, e, sets-eq v c m h, drop-drop (length v) m c) (sym (append_assoc (take m c) v (drop (m + length v) c)))
-
-  -- a copy to the part is stores where it begins
-  pub copy_put : (c y v : List A) (m : ℕ) → m + length v ≤ length c
-      → y ≡ take (length v) v ++ drop (length v) (take (length c - m) (drop m c))
-      → take m c ++ (y ++ drop (length c - m) (drop m c)) ≡ sets c m v
-  copy_put c y v m h e =
-      let t : length (take (length c - m) (drop m c)) ≡ length c - m = length-take-le (length c - m) (drop m c) (rw length-drop (omega arith)) in
-      rw (e, copied_sets (take (length c - m) (drop m c)) v (omega arith)) (tail_sets c m v h)

@@ -47,6 +47,13 @@ struct Files<F> {
     later: F,
 }
 
+// What both files of readings gave.
+#[derive(Clone, Copy)]
+struct Readings<'a> {
+    earlier: &'a [u8],
+    later: &'a [u8],
+}
+
 // How many bytes a file gave, or that it could not be read.
 #[derive(Clone, Copy)]
 enum FileRead {
@@ -206,12 +213,13 @@ fn print_loaded(
     packets: &mut impl Read,
     sheet: &[u8],
     layout: PairLayout,
-    earlier: &[u8],
-    later: &[u8],
+    readings: Readings<'_>,
     block: &mut [u8],
 ) -> io::Result<()>
     requires { Checked sheet.now layout }
 {
+    let earlier = readings.earlier;
+    let later = readings.later;
     let places = layout.boxes + layout.order.own;
     if !reporting::are_readings(earlier, later, places) {
         return print_refusal(rt, Refusal::LengthWrong);
@@ -245,15 +253,13 @@ fn print_checked<F: Read + Drop>(
         FileRead::Failed => print_unread(rt, EARLIER),
         FileRead::Bytes(e) => match read_file(&mut files.later, &mut later) {
             FileRead::Failed => print_unread(rt, LATER),
-            FileRead::Bytes(l) => print_loaded(
-                rt,
-                &mut files.packets,
-                sheet,
-                layout,
-                &earlier[..e],
-                &later[..l],
-                block,
-            ),
+            FileRead::Bytes(l) => {
+                let readings = Readings {
+                    earlier: &earlier[..e],
+                    later: &later[..l],
+                };
+                print_loaded(rt, &mut files.packets, sheet, layout, readings, block)
+            }
         },
     }
 }
