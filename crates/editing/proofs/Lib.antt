@@ -2,5 +2,6 @@ pub mod Calls
 pub mod Revised
 pub mod Parts
 pub mod Changed
+pub mod Made
 pub mod Gate
 pub mod Own
