@@ -14,6 +14,7 @@ use Rattle.wire.specs.Records.{rule_in}
 use Rattle.sheet.specs.Steps.{pair_at}
 use Rattle.sheet.specs.declared.PairLayout.{PairLayout}
 use Rattle.origins.specs.Steps.{Checked}
+use Rattle.origins.proofs.Tracing.{gate_record}
 use Rattle.rows.specs.Steps.{table_size, fronts_at, front_of}
 use Rattle.rows.proofs.Fronts.{gate_count_lem, Reached, reached_first, reached_few, reached_allow, reached_deny, group_begins, group_inside, below_set}
 use Rattle.rows.proofs.put_fronts.Goals as goal
@@ -23,9 +24,6 @@ use Rattle.rows.proofs.put_fronts.Goals.{else-not-is_allow, then-not-is_allow}
 module _ {sheet : List ℕ} {layout : PairLayout} (checked : Checked sheet layout) (k : ℕ) where
   room : {most long : ℕ} → table_size ≤ most → long ≡ most → k ≤ layout.order.gate → fronts_at + k < long
   room enough same within = omega (arith, checked.laid.lists.gate_limit)
-
-  inside : k < layout.order.gate → count_size + record_size * k + record_size ≤ length sheet
-  inside here = omega (arith, checked.laid.lists.gate_end, checked.laid.lists.own_end, checked.laid.lists.inside)
 
   module _ {boxes start : ℕ} (reached : Reached sheet layout k boxes start) where
     few : boxes ≤ limits.total
@@ -67,13 +65,13 @@ pub bounds-table-k : goal.bounds-table-k
 bounds-table-k c = room c.requires.0 _ c.requires.1 c.loop-k.invariant.1 c.loop-k.invariant.0
 
 pub overflow_mul-k : goal.overflow_mul-k
-overflow_mul-k c = let h = inside c.requires.0 _ c.loop-k-test.true in search rules
+overflow_mul-k c = let h = gate_record c.requires.0 c.loop-k-test.true in search rules
 
 pub overflow_add-k : goal.overflow_add-k
-overflow_add-k c = let h = inside c.requires.0 _ c.loop-k-test.true in search rules
+overflow_add-k c = let h = gate_record c.requires.0 c.loop-k-test.true in search rules
 
 pub rule_at-rule-requires : goal.rule_at-rule-requires
-rule_at-rule-requires c = inside c.requires.0 _ c.loop-k-test.true
+rule_at-rule-requires c = gate_record c.requires.0 c.loop-k-test.true
 
 pub count_at-count-requires : goal.count_at-count-requires
 count_at-count-requires c =
