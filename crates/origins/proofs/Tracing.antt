@@ -53,6 +53,14 @@ group_at_lem (suc k) (suc n) s h =
     group_at_lem k n (drop (group_size (count_in s)) s) (omega arith)
     ∙ ap group_boxes (drop-drop (run_size k (drop (group_size (count_in s)) s)) (group_size (count_in s)) s ∙ ap (λ (m : ℕ). drop m s) (sym (run_first k s)))
 
+-- The record at a place of A, and of B, lies in the sheet.
+module _ {s : List ℕ} {l : PairLayout} (c : Checked s l) {i : ℕ} where
+  pub gate_record : i < l.order.gate → count_size + record_size * i + record_size ≤ length s
+  gate_record h = omega (arith, c.laid.lists.gate_end, c.laid.lists.own_end, c.laid.lists.inside)
+
+  pub own_record : i < l.order.own → l.order.middle + count_size + record_size * i + record_size ≤ length s
+  own_record h = omega (arith, c.laid.lists.own_end, c.laid.lists.inside)
+
 module _ {s : List ℕ} {l : PairLayout} (c : Checked s l) (p : Packet) where
   abbrev q : Pair
   q = pair_at l s
