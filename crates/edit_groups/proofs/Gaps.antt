@@ -31,7 +31,7 @@ use Rattle.edit_groups.specs.Steps.{kept_slots, slots_behind, Gathering, Gathere
 use Rattle.edit_groups.specs.declared.Around.{Around}
 use Rattle.edit_groups.proofs.Settled.{Keeps, part_is, rules_good, settle_ready, settle_done}
 
-module _ {start : Region → List Region} (keeps : Keeps start) {sheet list w : List ℕ} {t : PairLayout} {v : Around} (ready : Regrouping start sheet t list v w) where
+module _ {start : Region → List Region} {sheet list w : List ℕ} {t : PairLayout} {v : Around} (ready : Regrouping start sheet t list v w) where
   abbrev from : ℕ
   from = t.from
 
@@ -93,7 +93,7 @@ module _ {start : Region → List Region} (keeps : Keeps start) {sheet list w : 
     back_is : drop gap.next groups ≡ groups_bytes (drop v.later (groups_from v.groups groups))
     back_is = rw next_is (held_behind v.later v.groups groups ready.placed.later ready.held ready.exact)
 
-    module _ (of_list : (i : ℕ) → Fits w8 (get_or list i 0)) (of_sheet : (i : ℕ) → Fits w8 (get_or sheet i 0)) where
+    module _ (keeps : Keeps start) (of_list : (i : ℕ) → Fits w8 (get_or list i 0)) (of_sheet : (i : ℕ) → Fits w8 (get_or sheet i 0)) where
       pub gathering : v.to ≤ v.place + 1 → Gathering rules v.place v.to (boxes - gap.boxes) back w
       gathering one =
           let q = ready.placed in
@@ -138,6 +138,7 @@ module _ {start : Region → List Region} (keeps : Keeps start) {sheet list w : 
         many : Counted anew r
         many = rw rules_are at x.count
 
+        -- the last step, with the groups on both sides of the gap kept
         abbrev stay : Kept
         stay = record { before = v.earlier; size = gap.at; behind = v.groups - v.later }
 

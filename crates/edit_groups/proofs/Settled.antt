@@ -125,7 +125,7 @@ module _ {start : Region → List Region} (keeps : Keeps start) {sheet list w : 
   to_few = omega (arith, ready.placed.in_gate, a.laid.lists.gate_limit)
 
   -- the groups before the place, which stay in the sheet
-  pub front_held : GroupsHeld groups v.earlier
+  front_held : GroupsHeld groups v.earlier
   front_held = held_front v.earlier v.groups groups ready.placed.earlier ready.held
 
   groups_long : length groups ≡ used - from
@@ -325,6 +325,7 @@ module _ {start : Region → List Region} (keeps : Keeps start) {sheet list w : 
       many : Counted anew r
       many = rw (part_from list count_size) at x.drafting.count
 
+      -- the last step, with the groups before the place kept
       abbrev stay : Kept
       stay = record { before = v.earlier; size = count_size * v.earlier + box_size * front; behind = 0 }
 
