@@ -6,7 +6,7 @@ use native.Mathlib.Omega.{arith}
 use mir.Val.{Fits}
 use mir.Syntax.{w8}
 use lib.ListN.{length, take, drop, get_or, length-append, length-drop}
-use lib.Seq.{drop-drop, length-take-le}
+use lib.Seq.{drop-drop}
 use Rattle.policy.specs.Fields.{count_size, limits}
 use Rattle.policy.specs.Ranges.{Region}
 use Rattle.policy.specs.Move.{Slot, boxes_of, together, groups_of}
@@ -29,7 +29,7 @@ use Rattle.edit_sheet.specs.Steps.{part_of, groups_at}
 use Rattle.edit_sheet.specs.declared.Kept.{Kept}
 use Rattle.edit_groups.specs.Steps.{kept_slots, slots_behind, Gathering, Gathered, Settling, Settled, Regrouping, Regrouped}
 use Rattle.edit_groups.specs.declared.Around.{Around}
-use Rattle.edit_groups.proofs.Settled.{Keeps, part_is, rules_good, settle_ready, settle_done}
+use Rattle.edit_groups.proofs.Settled.{Keeps, part_is, groups_long, rules_good, settle_ready, settle_done}
 
 module _ {start : Region → List Region} {sheet list w : List ℕ} {t : PairLayout} {v : Around} (ready : Regrouping start sheet t list v w) where
   abbrev from : ℕ
@@ -46,9 +46,6 @@ module _ {start : Region → List Region} {sheet list w : List ℕ} {t : PairLay
 
   abbrev gone : ℕ
   gone = v.later - v.earlier
-
-  groups_long : length groups ≡ used - from
-  groups_long = length-take-le (used - from) (drop from sheet) (rw length-drop (omega (arith, ready.within, ready.end)))
 
   later_held : GroupsHeld groups v.later
   later_held = held_front v.later v.groups groups ready.placed.later ready.held
@@ -73,7 +70,7 @@ module _ {start : Region → List Region} {sheet list w : List ℕ} {t : PairLay
     gap_boxes = omega (arith, lost_is, behind_boxes, ready.all)
 
     pub gap_inside : from + gap.next ≤ used
-    gap_inside = omega (arith, next_is, later_held.there, groups_long, ready.within)
+    gap_inside = omega (arith, next_is, later_held.there, groups_long ready, ready.within)
 
     -- the rules of the list, and what stands in section C behind the gap
     abbrev rules : List ℕ

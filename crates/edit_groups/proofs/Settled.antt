@@ -71,6 +71,10 @@ alone_keeps i to rules h f =
     let l : List Rule = rules_in to rules in
     rw (rules_front i to rules h) at (rest_proper (record { gate = l; own = [] }) (take i l) (drop i l) (ap rules_refusal (take-append-drop i l) ∙ f))
 
+-- the groups that stand in the sheet reach from one place to the other
+pub groups_long : {start : Region → List Region} {sheet list w : List ℕ} {t : PairLayout} {v : Around} → Regrouping start sheet t list v w → length (groups_at t sheet) ≡ t.end - t.from
+groups_long {sheet = sheet} {t = t} ready = length-take-le (t.end - t.from) (drop t.from sheet) (rw length-drop (omega (arith, ready.within, ready.end)))
+
 module _ {start : Region → List Region} (keeps : Keeps start) {sheet list w : List ℕ} {t : PairLayout} {v : Around} (ready : Regrouping start sheet t list v w)
     (of_list : (i : ℕ) → Fits w8 (get_or list i 0)) (of_sheet : (i : ℕ) → Fits w8 (get_or sheet i 0)) where
   abbrev middle : ℕ
@@ -128,11 +132,8 @@ module _ {start : Region → List Region} (keeps : Keeps start) {sheet list w : 
   front_held : GroupsHeld groups v.earlier
   front_held = held_front v.earlier v.groups groups ready.placed.earlier ready.held
 
-  groups_long : length groups ≡ used - from
-  groups_long = length-take-le (used - from) (drop from sheet) (rw length-drop (omega (arith, ready.within, ready.end)))
-
   front_is : take (run_size v.earlier groups) (drop from sheet) ≡ groups_bytes (groups_from v.earlier groups)
-  front_is = sym (take-take (run_size v.earlier groups) (used - from) (drop from sheet) (omega (arith, front_held.there, groups_long))) ∙ sym front_held.bytes
+  front_is = sym (take-take (run_size v.earlier groups) (used - from) (drop from sheet) (omega (arith, front_held.there, groups_long ready))) ∙ sym front_held.bytes
 
   -- the new A, in the bytes that are written, is readable, and its rules up to one place are sound
   clean : list_refusal limits.gate (rules_of gate list) ≡ 0
@@ -252,7 +253,7 @@ module _ {start : Region → List Region} (keeps : Keeps start) {sheet list w : 
         settle_put : (end ≤ length s) × GatePut sheet t list kept g (take end s)
         settle_put =
             let q = pair_short limits p (omega arith) (omega arith) good (omega arith) (omega arith) (omega arith) in
-            let fl : length (take kept.size (drop from sheet)) ≡ kept.size = length-take-le kept.size (drop from sheet) (rw length-drop (omega (arith, sized, front_held.there, groups_long, ready.end, ready.within))) in
+            let fl : length (take kept.size (drop from sheet)) ≡ kept.size = length-take-le kept.size (drop from sheet) (rw length-drop (omega (arith, sized, front_held.there, groups_long ready, ready.end, ready.within))) in
             let b : length (part_of middle third sheet) ≡ third - middle = length-take-le (third - middle) (drop middle sheet) (rw length-drop (omega (arith, ready.up_to, ready.begin, ready.within, ready.end))) in
             let j : length (sheet_of order n section) ≡ length list + (third - middle) + count_size + kept.size + length (take end s) = rw (length-append, length-append, length-append, number_bytes-length, length-append, fl, b) (omega arith) in (
               made.0,
@@ -260,7 +261,7 @@ module _ {start : Region → List Region} (keeps : Keeps start) {sheet list w : 
                 apart = ready.apart;
                 up_to = ready.up_to;
                 begin = ready.begin;
-                old = omega (arith, sized, front_held.there, groups_long, ready.end, ready.within);
+                old = omega (arith, sized, front_held.there, groups_long ready, ready.end, ready.within);
                 laid = rw (rest_is, made.1) (groups_laid (groups_of behind) behind_proper (omega (arith, behind_few)));
                 few = omega (arith, number, length-map l boxes_of, short);
                 fits = omega (arith, ap length sheet_is);
