@@ -6,12 +6,14 @@ use mathlib.Core.Bool.{Bool, true, false}
 use Prim.Native.Nat.{ℕ, ◌+◌, ◌*◌, ◌-◌, ◌<◌, ◌≤◌}
 use native.Mathlib.Omega.{arith}
 use lib.Dec.{ltb}
-use lib.ListN.{length, take, drop, length-append, length-drop, length-map, take-append-drop, drop_of_length-le}
+use mir.Val.{Fits}
+use mir.Syntax.{w8}
+use lib.ListN.{length, take, drop, get_or, length-append, length-drop, length-map, take-append-drop, drop_of_length-le}
 use lib.Seq.{drop_at, take-add, take-take, length-take-le}
 use borrow.Author.Tests.{lt-ltb, le-ltb, ltb-true, ltb-false}
 use Rattle.lists.specs.Lists.{Each, every}
 use Rattle.lists.proofs.Lists.{each_append, each-drop, map-append, append-none}
-use Rattle.policy.specs.Fields.{count_size, record_size, limits, work_size}
+use Rattle.policy.specs.Fields.{box_size, count_size, record_size, limits, work_size}
 use Rattle.policy.specs.Ranges.{Region}
 use Rattle.policy.specs.Rules.{Rule, denies, sound}
 use Rattle.policy.specs.Refusals.{rules_refusal}
@@ -35,6 +37,7 @@ use Rattle.sheet.specs.Steps.{rules_of, order_at, groups_from, box_count}
 use Rattle.sheet.specs.declared.OrderLayout.{OrderLayout}
 use Rattle.sheet.specs.declared.PairLayout.{PairLayout}
 use Rattle.sheet.proofs.Outcomes.{readable}
+use Rattle.sheet.proofs.Parts.{bytes_of, part_from}
 use Rattle.sheet.proofs.Pairs.{ProperGroup, PairGood, denies_most}
 use Rattle.sheet.proofs.Accepted.{OrderAccepted, order_accepted}
 use Rattle.kept.specs.Steps.{run_size, GroupsHeld}
@@ -59,10 +62,6 @@ part_is from used sheet h k =
     sym (ap (λ (n : ℕ). drop from (take n sheet)) e ∙ ap (drop from) (take-add from (used - from) sheet)
     ∙ drop_at (take from sheet) (take (used - from) (drop from sheet)) from (length-take-le from sheet (omega arith)))
 
--- the bytes of the new order sheet
-pub order_bytes_lem : (list sheet : List ℕ) (t : PairLayout) → Each Byte list → Each Byte sheet → Each Byte (order_with list t sheet)
-order_bytes_lem list sheet t a b = each_append Byte list (part_of t.order.middle t.order.end sheet) a (bytes_take (t.order.end - t.order.middle) (drop t.order.middle sheet) (bytes_drop t.order.middle sheet b))
-
 -- Where groups start: those worked out anew from sound rules are proper.
 abbrev pub Keeps : (Region → List Region) → Type 0
 Keeps start = (i to : ℕ) (rules : List ℕ) → i ≤ to → rules_refusal (rules_in to rules) ≡ 0 → Each ProperGroup (map boxes_of (stretch start i to rules))
@@ -72,7 +71,12 @@ alone_keeps i to rules h f =
     let l : List Rule = rules_in to rules in
     rw (rules_front i to rules h) at (rest_proper (record { gate = l; own = [] }) (take i l) (drop i l) (ap rules_refusal (take-append-drop i l) ∙ f))
 
-module _ {start : Region → List Region} (keeps : Keeps start) {sheet list w : List ℕ} {t : PairLayout} {v : Around} (ready : Regrouping start sheet t list v w) (bytes : Each Byte (order_with list t sheet)) where
+-- the groups that stand in the sheet reach from one place to the other
+pub groups_long : {start : Region → List Region} {sheet list w : List ℕ} {t : PairLayout} {v : Around} → Regrouping start sheet t list v w → length (groups_at t sheet) ≡ t.end - t.from
+groups_long {sheet = sheet} {t = t} ready = length-take-le (t.end - t.from) (drop t.from sheet) (rw length-drop (omega (arith, ready.within, ready.end)))
+
+module _ {start : Region → List Region} (keeps : Keeps start) {sheet list w : List ℕ} {t : PairLayout} {v : Around} (ready : Regrouping start sheet t list v w)
+    (of_list : (i : ℕ) → Fits w8 (get_or list i 0)) (of_sheet : (i : ℕ) → Fits w8 (get_or sheet i 0)) where
   abbrev middle : ℕ
   middle = t.order.middle
 
@@ -97,8 +101,11 @@ module _ {start : Region → List Region} (keeps : Keeps start) {sheet list w : 
   abbrev layout : OrderLayout
   layout = layout_of gate own
 
+  order_each : Each Byte order
+  order_each = each_append Byte list (part_of middle third sheet) (bytes_of list of_list) (bytes_take (third - middle) (drop middle sheet) (bytes_drop middle sheet (bytes_of sheet of_sheet)))
+
   a : OrderAccepted order layout
-  a = order_accepted ready.reads bytes layout refl
+  a = order_accepted ready.reads order_each layout refl
 
   abbrev o : Order
   o = order_at layout order
@@ -122,14 +129,11 @@ module _ {start : Region → List Region} (keeps : Keeps start) {sheet list w : 
   to_few = omega (arith, ready.placed.in_gate, a.laid.lists.gate_limit)
 
   -- the groups before the place, which stay in the sheet
-  pub front_held : GroupsHeld groups v.earlier
+  front_held : GroupsHeld groups v.earlier
   front_held = held_front v.earlier v.groups groups ready.placed.earlier ready.held
 
-  groups_long : length groups ≡ used - from
-  groups_long = length-take-le (used - from) (drop from sheet) (rw length-drop (omega (arith, ready.within, ready.end)))
-
   front_is : take (run_size v.earlier groups) (drop from sheet) ≡ groups_bytes (groups_from v.earlier groups)
-  front_is = sym (take-take (run_size v.earlier groups) (used - from) (drop from sheet) (omega (arith, front_held.there, groups_long))) ∙ sym front_held.bytes
+  front_is = sym (take-take (run_size v.earlier groups) (used - from) (drop from sheet) (omega (arith, front_held.there, groups_long ready))) ∙ sym front_held.bytes
 
   -- the new A, in the bytes that are written, is readable, and its rules up to one place are sound
   clean : list_refusal limits.gate (rules_of gate list) ≡ 0
@@ -167,30 +171,6 @@ module _ {start : Region → List Region} (keeps : Keeps start) {sheet list w : 
 
   short : length l ≤ limits.gate
   short = omega (arith, ready.counted, denies_most (rules_of gate list), rules_in-length gate (drop count_size list), a.laid.lists.gate_limit)
-
-  -- drafting the groups from the place on, where none is kept behind it
-  pub draft_ready : (rules draft : List ℕ) (front : ℕ) → rules ≡ drop count_size list → front ≡ box_count v.earlier groups → draft_size ≤ length draft → Ready rules v.place v.to draft 0 front w
-  draft_ready rules draft front e f roomy =
-      let q = ready.placed in
-      let g = rules_good v.to q.in_gate in
-      record {
-        records = rw e g.0;
-        rules_sound = rw e g.1;
-        up_to = q.up_to;
-        gate = to_few;
-        room = roomy;
-        start = record { short = omega arith; few = omega (arith, front_held.few) };
-        work_room = ready.work_room;
-      }
-
-  pub draft_behind : (q r : Drafted) (rules draft draft' w' : List ℕ) (front : ℕ) → q ≡ r → rules ≡ drop count_size list → front ≡ box_count v.earlier groups → AllAnew v → draft_size ≤ length draft → length draft' ≡ length draft
-      → DraftedGroups start rules v.place v.to draft 0 front w q draft' w' → Behind behind (box_count v.earlier groups) r draft'
-  draft_behind q r rules draft draft' w' front i e f k roomy j x =
-      let m = groups_count_lem v.groups groups in
-      let n : length (groups_from v.groups groups) ≤ v.later = omega arith in
-      let b : behind ≡ anew = rw (drop_of_length-le (groups_from v.groups groups) n) (append-none anew) in
-      let s = short in
-      rw b (drawn_behind r (rw (i, e, f) at x.drafting) j anew_proper (omega (arith, all-length, ap length b)) roomy)
 
   anew-length : length behind ≡ length anew + (v.groups - v.later)
   anew-length =
@@ -273,7 +253,7 @@ module _ {start : Region → List Region} (keeps : Keeps start) {sheet list w : 
         settle_put : (end ≤ length s) × GatePut sheet t list kept g (take end s)
         settle_put =
             let q = pair_short limits p (omega arith) (omega arith) good (omega arith) (omega arith) (omega arith) in
-            let fl : length (take kept.size (drop from sheet)) ≡ kept.size = length-take-le kept.size (drop from sheet) (rw length-drop (omega (arith, sized, front_held.there, groups_long, ready.end, ready.within))) in
+            let fl : length (take kept.size (drop from sheet)) ≡ kept.size = length-take-le kept.size (drop from sheet) (rw length-drop (omega (arith, sized, front_held.there, groups_long ready, ready.end, ready.within))) in
             let b : length (part_of middle third sheet) ≡ third - middle = length-take-le (third - middle) (drop middle sheet) (rw length-drop (omega (arith, ready.up_to, ready.begin, ready.within, ready.end))) in
             let j : length (sheet_of order n section) ≡ length list + (third - middle) + count_size + kept.size + length (take end s) = rw (length-append, length-append, length-append, number_bytes-length, length-append, fl, b) (omega arith) in (
               made.0,
@@ -281,7 +261,7 @@ module _ {start : Region → List Region} (keeps : Keeps start) {sheet list w : 
                 apart = ready.apart;
                 up_to = ready.up_to;
                 begin = ready.begin;
-                old = omega (arith, sized, front_held.there, groups_long, ready.end, ready.within);
+                old = omega (arith, sized, front_held.there, groups_long ready, ready.end, ready.within);
                 laid = rw (rest_is, made.1) (groups_laid (groups_of behind) behind_proper (omega (arith, behind_few)));
                 few = omega (arith, number, length-map l boxes_of, short);
                 fits = omega (arith, ap length sheet_is);
@@ -314,3 +294,47 @@ module _ {start : Region → List Region} (keeps : Keeps start) {sheet list w : 
         go true e = let z = y.0 (ltb-true limits.total (b + own) e) in rw (z.0, z.1) (settle_seven x (ltb-true limits.total (b + own) e) beyond)
         go false e = let z = y.1 (ltb-false limits.total (b + own) e) in rw z.0 (settle_accepted x many (ltb-false limits.total (b + own) e) _ sheet' beyond refl z.1)
     settle_done D.TooManyPieces x many beyond y = rw (y.0, y.1) (settle_six x beyond)
+
+  -- the groups from the place on drafted, where none is kept behind it
+  module _ {front : ℕ} (counted : front ≡ box_count v.earlier groups) where
+    abbrev rules : List ℕ
+    rules = take (length list - count_size) (drop count_size list)
+
+    pub draft_ready : {draft : List ℕ} → draft_size ≤ length draft → Ready rules v.place v.to draft 0 front w
+    draft_ready roomy =
+        let q = ready.placed in
+        let g = rules_good v.to q.in_gate in
+        record {
+          records = rw (part_from list count_size) g.0;
+          rules_sound = rw (part_from list count_size) g.1;
+          up_to = q.up_to;
+          gate = to_few;
+          room = roomy;
+          start = record { short = omega arith; few = omega (arith, front_held.few) };
+          work_room = ready.work_room;
+        }
+
+    module _ (wide : AllAnew v) {draft draft' w' : List ℕ} {r : Drafted} (roomy : draft_size ≤ length draft) (same : length draft' ≡ length draft) (x : DraftedGroups start rules v.place v.to draft 0 front w r draft' w') where
+      draft_behind : Behind behind (box_count v.earlier groups) r draft'
+      draft_behind =
+          let m = groups_count_lem v.groups groups in
+          let n : length (groups_from v.groups groups) ≤ v.later = omega arith in
+          let b : behind ≡ anew = rw (drop_of_length-le (groups_from v.groups groups) n) (append-none anew) in
+          let s = short in
+          rw b (drawn_behind r (rw (part_from list count_size, counted) at x.drafting) same anew_proper (omega (arith, all-length, ap length b)) roomy)
+
+      many : Counted anew r
+      many = rw (part_from list count_size) at x.drafting.count
+
+      -- the last step, with the groups before the place kept
+      abbrev stay : Kept
+      stay = record { before = v.earlier; size = count_size * v.earlier + box_size * front; behind = 0 }
+
+      sized : stay.size ≡ run_size v.earlier groups
+      sized = ap (λ (n : ℕ). count_size * v.earlier + box_size * n) counted
+
+      pub all_ready : Settling sheet t list stay r draft'
+      all_ready = settle_ready refl sized (omega arith) r draft_behind many
+
+      pub all_done : {q : Answer} {sheet' : List ℕ} → Settled sheet t list stay r draft' q sheet' → Regrouped start sheet t list v w q sheet' w'
+      all_done = settle_done refl sized (omega arith) r draft_behind many x.beyond

@@ -4,13 +4,14 @@ use mathlib.Core.List.{List, [], ◌++◌}
 use mathlib.Core.Bool.{true, false}
 use Prim.Native.Nat.{ℕ, ◌+◌, ◌<◌, ◌≤◌}
 use native.Mathlib.Omega.{arith}
-use lib.ListN.{length, take, drop, length-append, length-map, take-append-drop}
+use mir.Val.{Fits}
+use mir.Syntax.{w8}
+use lib.ListN.{length, take, drop, get_or, length-append, length-map, take-append-drop}
 use lib.Seq.{sets, sets-eq, take_all}
 use borrow.Author.Tests.{lt-ltb, le-ltb}
 use Rattle.lists.proofs.Lists.{sets-append}
 use Rattle.policy.specs.Fields.{count_size, limits, work_size}
 use Rattle.policy.specs.Rules.{allows_in}
-use Rattle.policy.specs.Refusals.{refused, number_of}
 use Rattle.policy.specs.Move.{Slot, slots_of, start_of, alone, boxes_of, together, any_over, work, room, Order, moved, groups_of}
 use Rattle.policy.specs.declared.Answer.TheVariants.{Length, Refused}
 use Rattle.policy.specs.declared.Refusal.{Refusal}
@@ -24,14 +25,18 @@ use Rattle.wire.specs.Buffers.{zeroed, filled, written, length_of}
 use Rattle.wire.proofs.Numbers.{number_bytes-length}
 use Rattle.wire.proofs.Records.{rules_in-length}
 use Rattle.wire.proofs.Buffers.{filled_is}
-use Rattle.sheet.specs.Orders.{order_in, order_bytes}
+use Rattle.sheet.specs.Orders.{order_bytes}
 use Rattle.sheet.specs.Pairs.{groups_bytes, pair_bytes, pair_size}
-use Rattle.sheet.specs.Steps.{order_at}
+use Rattle.sheet.specs.Steps.{order_at, OrderRead}
 use Rattle.sheet.specs.declared.OrderLayout.{OrderLayout}
+use Rattle.sheet.specs.declared.OrderParts.{OrderParts}
+use Rattle.sheet.specs.declared.OrderParts.TheVariants as O
+use Rattle.sheet.proofs.Parts.{bytes_of}
 use Rattle.sheet.proofs.Outcomes.{readable}
 use Rattle.sheet.proofs.Pairs.{PairGood, denies_most}
-use Rattle.sheet.proofs.Accepted.{OrderAccepted}
-use Rattle.draft.specs.Steps.{stretch, draft_size, AllReady, DraftedGroups, sheet_of}
+use Rattle.sheet.proofs.Accepted.{OrderAccepted, order_accepted, order_refused}
+use Rattle.draft.specs.Steps.{stretch, draft_size, AllReady, Drafting, DraftedGroups, sheet_of}
+use Rattle.draft.specs.declared.Drafted.{Drafted}
 use Rattle.draft.specs.declared.Drafted.TheVariants as D
 use Rattle.draft.proofs.Drawn.{drawn_over, drawn_light, drawn_boxes, drawn_end, drawn_content}
 use Rattle.draft.proofs.Laid.{groups_laid}
@@ -56,11 +61,14 @@ pair_put {s} {order} {draft} {n} h c₁ c₂ c₃ last at end e₁ e₂ e₃ ee 
     sym (p₁ ∙ p₂) ∙ sets-eq content s 0 (omega (arith, h.fits, h.room, e₁.0)) ∙ rw (lc, z, take_all end content (omega arith)) in
     (sym lc, filled_is content s c₃ last end pair_size (sym lc) (omega (arith, h.fits, e₁.0)) h.room q el)
 
-pub plan_refused : (s out w : List ℕ) (f : Refusal) → order_in limits s ≡ refused (number_of f) → Planned s out w (Refused f) out w
+pub plan_refused : {s : List ℕ} {r : OrderParts} → OrderRead s r → {f : Refusal} → r ≡ O.Refused f → {out w : List ℕ} → Planned s out w (Refused f) out w
 unfolding move_of
-plan_refused s out w f e = refuses pair_bytes pair_size _ out w w f (rw e) refl
+plan_refused x {f} e {out} {w} = refuses pair_bytes pair_size _ out w w f (rw (order_refused x f e)) refl
 
-module _ {s : List ℕ} {l : OrderLayout} (a : OrderAccepted s l) where
+module _ {s : List ℕ} {l : OrderLayout} {parts : OrderParts} (heard : OrderRead s parts) (of_s : (i : ℕ) → Fits w8 (get_or s i 0)) (is_parts : parts ≡ O.Parts l) where
+  a : OrderAccepted s l
+  a = order_accepted heard (bytes_of s of_s) l is_parts
+
   abbrev o : Order
   o = order_at l s
 
@@ -88,23 +96,26 @@ module _ {s : List ℕ} {l : OrderLayout} (a : OrderAccepted s l) where
   own_are : length o.own ≡ l.own
   own_are = rules_in-length l.own (drop count_size (drop l.middle s))
 
-  module _ {draft draft' w w' : List ℕ} (roomy : draft_size ≤ length draft) where
-    pub plan_six : DraftedGroups alone (drop count_size s) 0 l.gate draft 0 0 w D.TooManyPieces draft' w' → (sheet : List ℕ) → Planned s sheet w (Refused TooManyPieces) sheet w'
+  module _ {draft draft' w w' : List ℕ} (roomy : draft_size ≤ length draft) {r : Drafted} (x : DraftedGroups alone (drop count_size s) 0 l.gate draft 0 0 w r draft' w') where
+    pub plan_six : r ≡ D.TooManyPieces → {sheet : List ℕ} → Planned s sheet w (Refused TooManyPieces) sheet w'
     unfolding plan_of room work
-    plan_six x sheet =
-        let over : any_over limits.pieces all ≡ true = drawn_over (rw all_anew at x.drafting) in
+    plan_six e {sheet} =
+        let over : any_over limits.pieces all ≡ true = drawn_over (rw (all_anew, e) at x.drafting) in
         refuses pair_bytes pair_size _ sheet w w' TooManyPieces (planned ∙ rw over) x.beyond
 
-    module _ {g b n : ℕ} (x : DraftedGroups alone (drop count_size s) 0 l.gate draft 0 0 w (D.Groups g b n) draft' w') where
+    module _ {g b n : ℕ} (is : r ≡ D.Groups g b n) where
+      drafting : Drafting limits all draft 0 0 (D.Groups g b n) draft'
+      drafting = rw (all_anew, is) at x.drafting
+
       light : any_over limits.pieces all ≡ false
-      light = drawn_light (rw all_anew at x.drafting)
+      light = drawn_light drafting
 
       boxes_are_lem : b ≡ length (together (moved o).groups)
-      boxes_are_lem = let e = drawn_boxes (rw all_anew at x.drafting) in omega arith
+      boxes_are_lem = let e = drawn_boxes drafting in omega arith
 
-      pub plan_seven : limits.total < b + l.own → (sheet : List ℕ) → Planned s sheet w (Refused TooManyBoxes) sheet w'
+      pub plan_seven : limits.total < b + l.own → {sheet : List ℕ} → Planned s sheet w (Refused TooManyBoxes) sheet w'
       unfolding plan_of room work
-      plan_seven h sheet =
+      plan_seven h {sheet} =
           let t : limits.total < length (together (moved o).groups) + length o.own = omega (arith, boxes_are_lem, own_are) in
           refuses pair_bytes pair_size _ sheet w w' TooManyBoxes (planned ∙ rw (light, lt-ltb _ _ t)) x.beyond
 
@@ -120,16 +131,16 @@ module _ {s : List ℕ} {l : OrderLayout} (a : OrderAccepted s l) where
         good = moved_good limits o (or_else-both (list_refusal limits.gate o.gate) _ a.gate_readable (or_else-both (list_refusal limits.own o.own) _ a.own_readable none))
 
         count_is : g ≡ length all
-        count_is = rw all_anew at x.drafting.count
+        count_is = drafting.count
 
         short : length all ≤ limits.gate
         short = omega (arith, slots_length (start_of o) [] o.gate, denies_most o.gate, rules_in-length l.gate (drop count_size s), a.laid.lists.gate_limit)
 
         pub plan_end : n ≤ length draft
-        plan_end = drawn_end (rw all_anew at x.drafting) (omega arith) good.groups.boxes short roomy
+        plan_end = drawn_end drafting (omega arith) good.groups.boxes short roomy
 
         content : take n draft' ≡ groups_bytes (moved o).groups
-        content = drawn_content (rw all_anew at x.drafting) (omega arith) good.groups.boxes short roomy
+        content = drawn_content drafting (omega arith) good.groups.boxes short roomy
 
         sheet_is : sheet_of s g (take n draft') ≡ pair_bytes (moved o)
         unfolding pair_bytes order_bytes
