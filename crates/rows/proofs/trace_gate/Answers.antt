@@ -1,9 +1,6 @@
 -- `trace_gate` meets its contract. Assumes nothing.
 use borrow.Author.Rules.{rules}
 use native.Mathlib.Omega.{arith}
-use Prim.Native.Nat.{ℕ, ◌≤◌}
-use Rattle.policy.specs.Fields.{limits}
-use Rattle.policy.specs.Ranges.{Packet}
 use Rattle.policy.specs.Values.{packet_of}
 use Rattle.rows.proofs.Tables.{fronts_inside, front_below, next_few, group_stretch, place_few, gate_traced}
 use Rattle.rows.proofs.trace_gate.Goals as goal
@@ -22,57 +19,30 @@ front_at-requires c =
     fronts_inside c.requires.0 c.requires.1 (packet_of c.args.p) _ c.requires.2
 
 pub overflow_sub-count : goal.overflow_sub-count
-overflow_sub-count c =
-    let packet : Packet = packet_of c.args.p in
-    let front : ℕ = c.front_at-front.result in
-    let next : ℕ = c.front_at.result in
-    let below : front ≤ next = front_below c.requires.0 c.requires.1 packet _ c.requires.2 front next c.front_at-front.ensures c.front_at.ensures in
-    below
+overflow_sub-count c = front_below c.requires.0 c.requires.1 (packet_of c.args.p) _ c.requires.2 _ _ c.front_at-front.ensures c.front_at.ensures
 
 pub overflow_add-gate : goal.overflow_add-gate
 overflow_add-gate c =
-    let packet : Packet = packet_of c.args.p in
-    let front : ℕ = c.front_at-front.result in
-    let next : ℕ = c.front_at.result in
-    let below : front ≤ next = front_below c.requires.0 c.requires.1 packet _ c.requires.2 front next c.front_at-front.ensures c.front_at.ensures in
-    let few : next ≤ limits.total =
-    let h = next_few c.requires.0 c.requires.1 packet _ c.requires.2 front next c.front_at-front.ensures c.front_at.ensures in
-    omega (arith, c.requires.0.laid.total_limit) in
-    omega (arith, below, few, c.requires.0.laid.lists.gate_limit)
+    let below = front_below c.requires.0 c.requires.1 (packet_of c.args.p) _ c.requires.2 _ _ c.front_at-front.ensures c.front_at.ensures in
+    let few = next_few c.requires.0 c.requires.1 (packet_of c.args.p) _ c.requires.2 _ _ c.front_at-front.ensures c.front_at.ensures in
+    omega (arith, c.requires.0.laid.total_limit, c.requires.0.laid.lists.gate_limit)
 
 pub overflow_mul-gate : goal.overflow_mul-gate
 overflow_mul-gate c =
-    let packet : Packet = packet_of c.args.p in
-    let front : ℕ = c.front_at-front.result in
-    let next : ℕ = c.front_at.result in
-    let below : front ≤ next = front_below c.requires.0 c.requires.1 packet _ c.requires.2 front next c.front_at-front.ensures c.front_at.ensures in
-    let few : next ≤ limits.total =
-    let h = next_few c.requires.0 c.requires.1 packet _ c.requires.2 front next c.front_at-front.ensures c.front_at.ensures in
-    omega (arith, c.requires.0.laid.total_limit) in
-    omega (arith, below, few, c.requires.0.laid.lists.gate_limit)
+    let below = front_below c.requires.0 c.requires.1 (packet_of c.args.p) _ c.requires.2 _ _ c.front_at-front.ensures c.front_at.ensures in
+    let few = next_few c.requires.0 c.requires.1 (packet_of c.args.p) _ c.requires.2 _ _ c.front_at-front.ensures c.front_at.ensures in
+    omega (arith, c.requires.0.laid.total_limit, c.requires.0.laid.lists.gate_limit)
 
 pub first_row-number-requires : goal.first_row-number-requires
 first_row-number-requires c =
-    let packet : Packet = packet_of c.args.p in
-    let front : ℕ = c.front_at-front.result in
-    let next : ℕ = c.front_at.result in
-    let h = group_stretch c.requires.0 c.requires.1 packet _ c.requires.2 front next c.front_at-front.ensures c.front_at.ensures in
+    let h = group_stretch c.requires.0 c.requires.1 (packet_of c.args.p) _ c.requires.2 _ _ c.front_at-front.ensures c.front_at.ensures in
     (h.there, h.clean)
 
 pub overflow_add-place : goal.overflow_add-place
 overflow_add-place c =
-    let packet : Packet = packet_of c.args.p in
-    let front : ℕ = c.front_at-front.result in
-    let next : ℕ = c.front_at.result in
-    let few : next ≤ limits.total =
-    let h = next_few c.requires.0 c.requires.1 packet _ c.requires.2 front next c.front_at-front.ensures c.front_at.ensures in
-    omega (arith, c.requires.0.laid.total_limit) in
-    let h = place_few c.requires.0 c.requires.1 packet _ c.requires.2 front next c.front_at-front.ensures c.front_at.ensures c.first_row-number.result c.first_row-number.ensures in
-    omega (arith, few)
+    let few = next_few c.requires.0 c.requires.1 (packet_of c.args.p) _ c.requires.2 _ _ c.front_at-front.ensures c.front_at.ensures in
+    let h = place_few c.requires.0 c.requires.1 (packet_of c.args.p) _ c.requires.2 _ _ c.front_at-front.ensures c.front_at.ensures c.first_row-number.result c.first_row-number.ensures in
+    omega (arith, c.requires.0.laid.total_limit)
 
 pub returns : goal.returns
-returns c =
-    let packet : Packet = packet_of c.args.p in
-    let front : ℕ = c.front_at-front.result in
-    let next : ℕ = c.front_at.result in
-    gate_traced c.requires.0 c.requires.1 packet _ c.requires.2 front next c.front_at-front.ensures c.front_at.ensures c.first_row-number.result c.first_row-number.ensures
+returns c = gate_traced c.requires.0 c.requires.1 (packet_of c.args.p) _ c.requires.2 _ _ c.front_at-front.ensures c.front_at.ensures c.first_row-number.result c.first_row-number.ensures
