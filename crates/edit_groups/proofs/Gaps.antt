@@ -29,7 +29,7 @@ use Rattle.edit_sheet.specs.Steps.{part_of, groups_at}
 use Rattle.edit_sheet.specs.declared.Kept.{Kept}
 use Rattle.edit_groups.specs.Steps.{kept_slots, slots_behind, Gathering, Gathered, Settling, Settled, Regrouping, Regrouped}
 use Rattle.edit_groups.specs.declared.Around.{Around}
-use Rattle.edit_groups.proofs.Settled.{Keeps, part_is, groups_long, rules_good, settle_ready, settle_done}
+use Rattle.edit_groups.proofs.Settled.{Keeps, records_in, part_is, groups_long, rules_good, settle_ready, settle_done}
 
 module _ {start : Region → List Region} {sheet list w : List ℕ} {t : PairLayout} {v : Around} (ready : Regrouping start sheet t list v w) where
   abbrev from : ℕ
@@ -72,14 +72,11 @@ module _ {start : Region → List Region} {sheet list w : List ℕ} {t : PairLay
     pub gap_inside : from + gap.next ≤ used
     gap_inside = omega (arith, next_is, later_held.there, groups_long ready, ready.within)
 
-    -- the rules of the list, and what stands in section C behind the gap
-    abbrev rules : List ℕ
-    rules = take (length list - count_size) (drop count_size list)
-
+    -- what stands in section C behind the gap
     abbrev back : List ℕ
     back = part_of (from + gap.next) used sheet
 
-    rules_are : rules ≡ drop count_size list
+    rules_are : records_in list ≡ drop count_size list
     rules_are = part_from list count_size
 
     back_are : back ≡ drop gap.next groups
@@ -91,7 +88,7 @@ module _ {start : Region → List Region} {sheet list w : List ℕ} {t : PairLay
     back_is = rw next_is (held_behind v.later v.groups groups ready.placed.later ready.held ready.exact)
 
     module _ (keeps : Keeps start) (of_list : (i : ℕ) → Fits w8 (get_or list i 0)) (of_sheet : (i : ℕ) → Fits w8 (get_or sheet i 0)) where
-      pub gathering : v.to ≤ v.place + 1 → Gathering rules v.place v.to (boxes - gap.boxes) back w
+      pub gathering : v.to ≤ v.place + 1 → Gathering (records_in list) v.place v.to (boxes - gap.boxes) back w
       gathering one =
           let q = ready.placed in
           let g = rules_good keeps ready of_list of_sheet v.to q.in_gate in
@@ -128,7 +125,7 @@ module _ {start : Region → List Region} {sheet list w : List ℕ} {t : PairLay
             );
           }
 
-      module _ {r : Drafted} {w' : List ℕ} (x : Gathered start rules v.place v.to (boxes - gap.boxes) back w r w') where
+      module _ {r : Drafted} {w' : List ℕ} (x : Gathered start (records_in list) v.place v.to (boxes - gap.boxes) back w r w') where
         gap_behind : Behind (slots_behind start v groups (drop count_size list)) (box_count v.earlier groups) r w'
         gap_behind = joined_behind r w' (rw rules_are at x.joined)
 

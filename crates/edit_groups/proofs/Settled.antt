@@ -62,6 +62,10 @@ part_is from used sheet h k =
     sym (ap (λ (n : ℕ). drop from (take n sheet)) e ∙ ap (drop from) (take-add from (used - from) sheet)
     ∙ drop_at (take from sheet) (take (used - from) (drop from sheet)) from (length-take-le from sheet (omega arith)))
 
+-- the rules of a list, behind its count
+abbrev pub records_in : List ℕ → List ℕ
+records_in list = take (length list - count_size) (drop count_size list)
+
 -- Where groups start: those worked out anew from sound rules are proper.
 abbrev pub Keeps : (Region → List Region) → Type 0
 Keeps start = (i to : ℕ) (rules : List ℕ) → i ≤ to → rules_refusal (rules_in to rules) ≡ 0 → Each ProperGroup (map boxes_of (stretch start i to rules))
@@ -125,7 +129,7 @@ module _ {start : Region → List Region} (keeps : Keeps start) {sheet list w : 
   abbrev p : Pair
   p = record { order = o; groups = map boxes_of l }
 
-  pub to_few : v.to ≤ limits.gate
+  to_few : v.to ≤ limits.gate
   to_few = omega (arith, ready.placed.in_gate, a.laid.lists.gate_limit)
 
   -- the groups before the place, which stay in the sheet
@@ -297,10 +301,7 @@ module _ {start : Region → List Region} (keeps : Keeps start) {sheet list w : 
 
   -- the groups from the place on drafted, where none is kept behind it
   module _ {front : ℕ} (counted : front ≡ box_count v.earlier groups) where
-    abbrev rules : List ℕ
-    rules = take (length list - count_size) (drop count_size list)
-
-    pub draft_ready : {draft : List ℕ} → draft_size ≤ length draft → Ready rules v.place v.to draft 0 front w
+    pub draft_ready : {draft : List ℕ} → draft_size ≤ length draft → Ready (records_in list) v.place v.to draft 0 front w
     draft_ready roomy =
         let q = ready.placed in
         let g = rules_good v.to q.in_gate in
@@ -314,7 +315,7 @@ module _ {start : Region → List Region} (keeps : Keeps start) {sheet list w : 
           work_room = ready.work_room;
         }
 
-    module _ (wide : AllAnew v) {draft draft' w' : List ℕ} {r : Drafted} (roomy : draft_size ≤ length draft) (same : length draft' ≡ length draft) (x : DraftedGroups start rules v.place v.to draft 0 front w r draft' w') where
+    module _ (wide : AllAnew v) {draft draft' w' : List ℕ} {r : Drafted} (roomy : draft_size ≤ length draft) (same : length draft' ≡ length draft) (x : DraftedGroups start (records_in list) v.place v.to draft 0 front w r draft' w') where
       draft_behind : Behind behind (box_count v.earlier groups) r draft'
       draft_behind =
           let m = groups_count_lem v.groups groups in

@@ -4,7 +4,7 @@ use mathlib.Core.List.{List, ◌++◌, append_assoc}
 use Prim.Native.Nat.{ℕ, ◌+◌, ◌-◌, ◌≤◌}
 use native.Mathlib.Omega.{arith}
 use lib.ListN.{length, take, drop, length-drop, drop_of_length-le}
-use lib.Seq.{sets, sets-eq, take_all, drop-drop, length-take-le}
+use lib.Seq.{sets, sets-eq, take_all, drop-drop}
 use Rattle.lists.proofs.Lists.{append-none}
 
 module _ {A : Type 0} where
