@@ -5,7 +5,7 @@ use Prim.Native.Nat.{ℕ, zero, suc}
 use native.Mathlib.Omega.{arith}
 use lib.Dec.{eqb}
 use Rattle.std.specs.Prelude.{Ok, Err}
-use Rattle.policy.specs.Refusals.{number_of, Outcome, accepted, test, unless, Answered, said}
+use Rattle.policy.specs.Refusals.{number_of, Outcome, accepted, refused, test, unless, Answered, heard, Gives, said}
 use Rattle.policy.specs.declared.Refusal.{Refusal}
 use Rattle.policy.specs.declared.Refusal.TheVariants.{
   BufferShort,
@@ -45,6 +45,21 @@ said_once (Ok n) (Ok m) e = ap Ok (cc)
 said_once (Ok n) (Err f) e = let z : ◌≡◌ {A = ℕ} 0 1 = cc in absurd (omega arith)
 said_once (Err f) (Ok m) e = let z : ◌≡◌ {A = ℕ} 0 1 = cc in absurd (omega arith)
 said_once (Err f) (Err g) e = ap Err (number_once f g (cc))
+
+-- What is given where a call answers a refusal, and what is known of the outcome from either answer.
+module _ {A B : Type 0} {meaning : A → B} {x : Outcome B} {Laid : A → Type 0} where
+  pub gives_refusal : (f : Refusal) → x ≡ refused (number_of f) → Gives meaning x Laid (Err f)
+  gives_refusal f e = record { says = sym e; laid = tt }
+
+  module _ {r : Answered A} (g : Gives meaning x Laid r) where
+    pub given_refusal : (f : Refusal) → r ≡ Err f → x ≡ refused (number_of f)
+    given_refusal f e = sym g.says ∙ ap (heard meaning) e
+
+    pub given_value : (a : A) → r ≡ Ok a → x ≡ accepted (meaning a)
+    given_value a e = sym g.says ∙ ap (heard meaning) e
+
+    pub given_laid : (a : A) → r ≡ Ok a → Laid a
+    given_laid a e = rw e at g.laid
 
 pub test_accepted : {A : Type 0} (t : Bool) (n : ℕ) (x : Outcome A) {a : A} → test t n x ≡ accepted a → (t ≡ true) × (x ≡ accepted a)
 test_accepted true n x e = (refl, e)

@@ -1,6 +1,6 @@
 -- The numbers given back, and the answers of the code read as numbers and values (01, Numbers given back).
 -- Assumes nothing.
-use Rattle.std.specs.Prelude.{List, [], ◌∷◌, Bool, true, false, not, ℕ, zero, suc, Result, Ok, Err}
+use Rattle.std.specs.Prelude.{◌≡◌, List, [], ◌∷◌, Bool, true, false, not, ℕ, zero, suc, Result, Ok, Err, IfOk}
 use Rattle.policy.specs.Rules.{Rule, sound}
 use Rattle.policy.specs.declared.Refusal.{Refusal}
 use Rattle.policy.specs.declared.Refusal.TheVariants.{
@@ -72,6 +72,11 @@ Answered A = Result A Refusal
 abbrev pub heard : {A B : Type 0} → (A → B) → Answered A → Outcome B
 heard meaning (Ok a) = accepted (meaning a)
 heard meaning (Err f) = refused (number_of f)
+
+-- A call gives an outcome: its answer is heard as that, and of a value answered this is said besides.
+pub record Gives {A B : Type 0} (meaning : A → B) (x : Outcome B) (Laid : A → Type 0) (r : Answered A) : Type 0 where
+  pub says : heard meaning r ≡ x
+  pub laid : IfOk r Laid
 
 -- The value answered, or the refusal's number.
 abbrev pub said : Answered ℕ → Outcome ℕ
