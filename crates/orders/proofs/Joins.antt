@@ -1,4 +1,5 @@
 -- Join: what each return of the code says, and that two outcomes are equal. Assumes nothing.
+use Rattle.std.specs.Prelude.{Ok, Err}
 use mathlib.Core.Path.{◌≡◌, refl, ap, sym, ◌∙◌}
 use mathlib.Core.List.{List, [], ◌++◌, append_assoc, append-nil}
 use Prim.Native.Nat.{ℕ, ◌+◌, ◌-◌, ◌<◌, ◌≤◌}
@@ -9,11 +10,9 @@ use lib.ListN.{length, take, drop, get_or, replicate, length-append, length-drop
 use lib.Seq.{take_at, drop_at, drop-drop}
 use borrow.Author.Tests.{le-leb, lt-leb}
 use Rattle.policy.specs.Fields.{limits}
-use Rattle.policy.specs.Refusals.{accepted, refused, number_of}
+use Rattle.policy.specs.Refusals.{Answer, accepted, refused, number_of}
 use Rattle.policy.specs.declared.Refusal.{Refusal}
 use Rattle.policy.specs.declared.Refusal.TheVariants.{BufferShort}
-use Rattle.policy.specs.declared.Answer.{Answer}
-use Rattle.policy.specs.declared.Answer.TheVariants.{Length, Refused}
 use Rattle.policy.proofs.Answers.{said_once}
 use Rattle.wire.specs.Buffers.{room_for, filled, written, length_of}
 use Rattle.sheet.specs.Orders.{order_bytes, order_size}
@@ -60,28 +59,28 @@ module _ {a b : List ℕ} {r q : Section} (x : ListRead limits.gate a r) (y : Li
       omega arith
 
 module _ (a b out : List ℕ) where
-  refusing : (f : Refusal) → join_of limits a b out ≡ refused (number_of f) → Join a b out (Refused f) out
+  refusing : (f : Refusal) → join_of limits a b out ≡ refused (number_of f) → Join a b out (Err f) out
   unfolding length_of
   refusing f e = record { answer = rw e refl; sheet = refusal_leaves order_bytes order_size out e }
 
-  pub sheet_short : length out < order_size → Join a b out (Refused BufferShort) out
+  pub sheet_short : length out < order_size → Join a b out (Err BufferShort) out
   unfolding join_of room_for
   sheet_short h = refusing BufferShort (rw (lt-leb order_size (length out) h) refl)
 
   module _ (x : order_size ≤ length out) {r : Section} (g : ListRead limits.gate a r) where
-    pub join_gate_refusal : (f : Refusal) → r ≡ S.Refused f → Join a b out (Refused f) out
+    pub join_gate_refusal : (f : Refusal) → r ≡ S.Err f → Join a b out (Err f) out
     unfolding join_of room_for
     join_gate_refusal f e = refusing f (rw (le-leb order_size (length out) x, list_refused g f e) refl)
 
     module _ (ba : (i : ℕ) → Fits w8 (get_or a i 0)) (n m : ℕ) (e : r ≡ S.Rules n m) {q : Section} (h : ListRead limits.own b q) where
-      pub join_own_refusal : (f : Refusal) → q ≡ S.Refused f → Join a b out (Refused f) out
+      pub join_own_refusal : (f : Refusal) → q ≡ S.Err f → Join a b out (Err f) out
       unfolding join_of room_for
       join_own_refusal f i =
           refusing f (rw (le-leb order_size (length out) x, (list_accepted g (bytes_of a ba) n m e).reads, list_refused h f i) refl)
 
       pub join_done :
           ((i : ℕ) → Fits w8 (get_or b i 0)) → (j k : ℕ) → q ≡ S.Rules j k → {last : List ℕ} → last ≡ filled order_size out (a ++ b)
-          → Join a b out (Length (length a + length b)) last
+          → Join a b out (Ok (length a + length b)) last
       unfolding join_of length_of written order_bytes room_for
       join_done bb j k i u =
           let z = list_accepted g (bytes_of a ba) n m e in

@@ -5,7 +5,7 @@ use Prim.Native.Nat.{ℕ, zero, suc}
 use native.Mathlib.Omega.{arith}
 use lib.Dec.{eqb}
 use Rattle.std.specs.Prelude.{Ok, Err}
-use Rattle.policy.specs.Refusals.{number_of, Outcome, accepted, refused, test, unless, Answered, heard, Gives, said}
+use Rattle.policy.specs.Refusals.{number_of, Outcome, accepted, refused, test, unless, Answered, Answer, heard, Gives, said}
 use Rattle.policy.specs.declared.Refusal.{Refusal}
 use Rattle.policy.specs.declared.Refusal.TheVariants.{
   BufferShort,
@@ -40,7 +40,7 @@ back NoPlace = refl
 pub number_once : (f g : Refusal) → number_of f ≡ number_of g → f ≡ g
 number_once f g e = sym (back f) ∙ (ap refusal_of e ∙ back g)
 
-pub said_once : (r q : Answered ℕ) → said r ≡ said q → r ≡ q
+pub said_once : (r q : Answer) → said r ≡ said q → r ≡ q
 said_once (Ok n) (Ok m) e = ap Ok (cc)
 said_once (Ok n) (Err f) e = let z : ◌≡◌ {A = ℕ} 0 1 = cc in absurd (omega arith)
 said_once (Err f) (Ok m) e = let z : ◌≡◌ {A = ℕ} 0 1 = cc in absurd (omega arith)

@@ -78,6 +78,9 @@ pub record Gives {A B : Type 0} (meaning : A → B) (x : Outcome B) (Laid : A �
   pub says : heard meaning r ≡ x
   pub laid : IfOk r Laid
 
--- The value answered, or the refusal's number.
-abbrev pub said : Answered ℕ → Outcome ℕ
+-- The value answered, mostly a length, or the refusal's number.
+abbrev pub Answer : Type 0
+Answer = Answered ℕ
+
+abbrev pub said : Answer → Outcome ℕ
 said r = heard (λ n. n) r
