@@ -4,7 +4,8 @@ use mathlib.Core.Bool.{Bool, true, false, cond}
 use Prim.Native.Nat.{ℕ, zero, suc}
 use native.Mathlib.Omega.{arith}
 use lib.Dec.{eqb}
-use Rattle.policy.specs.Refusals.{number_of, Outcome, accepted, test, unless, said}
+use Rattle.std.specs.Prelude.{Ok, Err}
+use Rattle.policy.specs.Refusals.{number_of, Outcome, accepted, test, unless, Answered, said}
 use Rattle.policy.specs.declared.Refusal.{Refusal}
 use Rattle.policy.specs.declared.Refusal.TheVariants.{
   BufferShort,
@@ -17,8 +18,6 @@ use Rattle.policy.specs.declared.Refusal.TheVariants.{
   GroupsDiffer,
   NoPlace,
 }
-use Rattle.policy.specs.declared.Answer.{Answer}
-use Rattle.policy.specs.declared.Answer.TheVariants.{Length, Refused}
 
 -- The refusal that has a number.
 refusal_of : ℕ → Refusal
@@ -41,11 +40,11 @@ back NoPlace = refl
 pub number_once : (f g : Refusal) → number_of f ≡ number_of g → f ≡ g
 number_once f g e = sym (back f) ∙ (ap refusal_of e ∙ back g)
 
-pub said_once : (r q : Answer) → said r ≡ said q → r ≡ q
-said_once (Length n) (Length m) e = ap Length (cc)
-said_once (Length n) (Refused f) e = let z : ◌≡◌ {A = ℕ} 0 1 = cc in absurd (omega arith)
-said_once (Refused f) (Length m) e = let z : ◌≡◌ {A = ℕ} 0 1 = cc in absurd (omega arith)
-said_once (Refused f) (Refused g) e = ap Refused (number_once f g (cc))
+pub said_once : (r q : Answered ℕ) → said r ≡ said q → r ≡ q
+said_once (Ok n) (Ok m) e = ap Ok (cc)
+said_once (Ok n) (Err f) e = let z : ◌≡◌ {A = ℕ} 0 1 = cc in absurd (omega arith)
+said_once (Err f) (Ok m) e = let z : ◌≡◌ {A = ℕ} 0 1 = cc in absurd (omega arith)
+said_once (Err f) (Err g) e = ap Err (number_once f g (cc))
 
 pub test_accepted : {A : Type 0} (t : Bool) (n : ℕ) (x : Outcome A) {a : A} → test t n x ≡ accepted a → (t ≡ true) × (x ≡ accepted a)
 test_accepted true n x e = (refl, e)
