@@ -13,18 +13,11 @@ ghost use Rattle.policy.specs.Move.{alone};
 ghost use Rattle.wire.specs.Records.{box_bytes, box_in, boxes_in};
 ghost use Rattle.groups.specs.Steps.{start_at, Workable, WorkedFrom, WorkedOut, capacity, stored_most, Stored, LaterStand, CutAt, FieldCut, Stands, Started, Untouched, Taken};
 
-use policy::{BOX_BYTES, Box, FIELDS, PIECES_MOST, RECORD_BYTES};
+use policy::{BOX_BYTES, Box, FIELDS, PIECES_MOST, RECORD_BYTES, Refusal};
 
 pub const WORK_BYTES: usize = 2 * PIECES_MOST * BOX_BYTES;
 
 const HALF_BYTES: usize = PIECES_MOST * BOX_BYTES;
-
-// How many boxes the group has, which then stand at the front of the work buffer; or more pieces than number 6 allows.
-#[derive(Clone, Copy)]
-pub enum Worked {
-    Boxes(usize),
-    TooMany,
-}
 
 fn larger(x: u32, y: u32) -> u32
     ensures { result ≡ max x y }
@@ -252,8 +245,9 @@ fn put_start(rules: &[u8], i: usize, work: &mut [u8]) -> usize
     1
 }
 
-// Every allow before place i taken from the pieces, so many, that stand at the front of the work buffer.
-fn take_allows(rules: &[u8], i: usize, pieces: usize, work: &mut [u8]) -> Worked
+// Every allow before place i taken from the pieces, so many, that stand at the front of the work buffer: how many boxes then stand
+// there; or number 6.
+fn take_allows(rules: &[u8], i: usize, pieces: usize, work: &mut [u8]) -> Result<usize, Refusal>
     requires { Workable rules.now i work.old × (pieces ≤ capacity) × Stands pieces work.old }
     ensures { WorkedFrom (boxes_in pieces work.old) rules.now i work.old result work.new }
 {
@@ -264,16 +258,17 @@ fn take_allows(rules: &[u8], i: usize, pieces: usize, work: &mut [u8]) -> Worked
         if rule.is_allow() {
             n = take_allow(work, HALF_BYTES, n, rule.bounds);
             if PIECES_MOST < n {
-                return Worked::TooMany;
+                return Err(Refusal::TooManyPieces);
             }
         }
         j += 1;
     }
-    Worked::Boxes(n)
+    Ok(n)
 }
 
-// The group of the deny rule at place i of the records.
-pub fn work_out(rules: &[u8], i: usize, work: &mut [u8]) -> Worked
+// The group of the deny rule at place i of the records: how many boxes it has, which then stand at the front of the work buffer; or
+// number 6.
+pub fn work_out(rules: &[u8], i: usize, work: &mut [u8]) -> Result<usize, Refusal>
     requires { Workable rules.now i work.old }
     ensures { WorkedOut alone rules.now i work.old result work.new }
 {
