@@ -1,9 +1,8 @@
--- `four_at` meets its contract: the number is read byte by byte. Assumes nothing.
-use native.Mathlib.Omega.{arith}
-use Rattle.wire.proofs.Numbers.{four_bytes}
+-- `four_at` meets its contract: 4 is a width. Assumes nothing.
+use mathlib.Core.Path.{refl}
+use Rattle.wire.specs.Steps.{is_width}
 use Rattle.wire.proofs.four_at.Goals as goal
 
-pub returns : goal.returns
-returns c =
-    let a = c.args in
-    rw (four_bytes a.s.now a.at (omega arith)) (omega arith)
+pub number_at-requires : goal.number_at-requires
+unfolding is_width
+number_at-requires c = (c.requires, refl)
