@@ -1,5 +1,5 @@
 // Numbers, boxes and records in bytes, and the zeroing, filling and copying of lent bytes.
-#![tactic(auto)]
+#![tactic(auto, unfolding(crate::specs::Steps::is_width))]
 
 ghost use Rattle.std.specs.Prelude.{◌≡◌, true, ◌+◌, ◌≤◌, ◌<◌, length, take, drop};
 ghost use Rattle.std.proofs.lemmas.List.Edits.{sets};
@@ -22,8 +22,8 @@ struct Range {
     high: u32,
 }
 
-// The number of w bytes that begin at `at`: the last of four, with zero before them. Where w is known, the compiler makes one load of
-// it.
+// The number of w bytes that begin at `at`: they are the last of four, with zero before them. Where w is known, the compiler makes one
+// load of it.
 pub fn number_at(s: &[u8], at: usize, w: usize) -> u32
     requires { (at + w ≤ length s.now) × (is_width w ≡ true) }
     ensures { result ≡ number_in (take w (drop at s.now)) }
@@ -49,8 +49,9 @@ fn put_number(out: &mut [u8], at: usize, w: usize, x: u32)
     put_bytes(out, at, &bytes[4 - w..]);
 }
 
-// The range whose two numbers of w bytes begin at `at`. Those of a port are read at once. Of the others the high is read first, and
-// so the compiler also compares it first: one compare less for a piece that lies below an allow, one more for a piece above it.
+// The range whose two numbers of w bytes begin at `at`. Those of a port are read as one number of four, in one load. Of an address the
+// high is read first, and so the compiler also compares it first: one compare less for a piece that lies below an allow, one more for
+// a piece above it.
 fn range_at(s: &[u8], at: usize, w: usize) -> Range
     requires { (at + w + w ≤ length s.now) × (is_width w ≡ true) }
     ensures { (result.low ≡ number_in (take w (drop at s.now))) × (result.high ≡ number_in (take w (drop (at + w) s.now))) }

@@ -1,16 +1,10 @@
 -- `count_at` meets its contract: a number of two bytes is below 65536. Assumes nothing.
 use native.Mathlib.Omega.{arith}
-use mathlib.Core.Path.{refl}
 use lib.ListN.{take, drop, length-drop}
 use lib.Seq.{length-take-le}
 use Rattle.policy.specs.Fields.{count_size}
-use Rattle.wire.specs.Steps.{is_width}
 use Rattle.wire.proofs.Numbers.{bytes_all, bytes_drop, bytes_take, number_bound}
 use Rattle.wire.proofs.count_at.Goals as goal
-
-pub number_at-requires : goal.number_at-requires
-unfolding is_width
-number_at-requires c = (c.requires, refl)
 
 pub returns : goal.returns
 returns c =

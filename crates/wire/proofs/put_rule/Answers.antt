@@ -1,10 +1,7 @@
 -- `put_rule` meets its contract. Assumes nothing.
 use borrow.Author.Rules.{rules}
-use native.Mathlib.Omega.{arith}
-use mathlib.Core.Path.{◌≡◌, refl, ◌∙◌}
+use mathlib.Core.Path.{◌≡◌, ◌∙◌}
 use lib.ListN.{length}
-use lib.Seq.{length-sets}
-use Rattle.wire.specs.Steps.{is_width}
 use Rattle.policy.specs.Fields.{fields}
 use Rattle.policy.specs.Values.{rule_of}
 use Rattle.policy.proofs.Values.{ranges-length}
@@ -18,7 +15,3 @@ returns c =
     let l : length b.low ≡ fields = search rules in
     let h : length b.high ≡ fields = search rules in
     rule_put a.out.now _ _ a.at (rule_of a.r) (ranges-length b.low b.high (cc) ∙ l) c.put_box.ensures c.put_number.ensures
-
-pub put_number-requires : goal.put_number-requires
-unfolding is_width
-put_number-requires c = (rw (c.put_box.ensures, length-sets) (omega arith), refl)
