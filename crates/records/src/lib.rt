@@ -18,11 +18,7 @@ fn values_at(numbers: &[u32], at: usize) -> [u32; FIELDS]
     ensures { result ≡ take fields (drop at numbers.now) }
 {
     let mut values = [0u32; FIELDS];
-    let mut k: usize = 0;
-    while k < FIELDS {
-        values[k] = numbers[at + k];
-        k += 1;
-    }
+    values.copy_from_slice(&numbers[at..at + FIELDS]);
     values
 }
 
@@ -31,11 +27,7 @@ fn put_values(numbers: &mut [u32], at: usize, values: [u32; FIELDS])
     requires { at + fields ≤ length numbers.old }
     ensures { numbers.new ≡ sets numbers.old at values }
 {
-    let mut k: usize = 0;
-    while k < FIELDS {
-        numbers[at + k] = values[k];
-        k += 1;
-    }
+    numbers[at..at + FIELDS].copy_from_slice(&values);
 }
 
 // The rule that numbers give.
