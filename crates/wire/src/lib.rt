@@ -10,17 +10,10 @@ ghost use Rattle.wire.specs.Steps.{is_width, copied_down, copied_up};
 ghost use Rattle.wire.specs.Records.{ranges_bytes, box_bytes, box_in, record_bytes, rule_in};
 ghost use Rattle.wire.specs.Buffers.{zeroed, filled};
 
-use policy::{BOX_BYTES, Box, COUNT_BYTES, FIELDS, RECORD_BYTES, Rule, WIDTH};
+use policy::{BOX_BYTES, Box, COUNT_BYTES, FIELDS, RECORD_BYTES, Range, Rule, WIDTH};
 
 // The bytes of an action.
 const ACTION_BYTES: usize = RECORD_BYTES - BOX_BYTES;
-
-// A range as its bytes have it, which may be empty.
-#[derive(Clone, Copy)]
-struct Range {
-    low: u32,
-    high: u32,
-}
 
 // The number of w bytes that begin at `at`: they are the last of four, with zero before them. Where w is known, the compiler makes one
 // load of it.
@@ -49,7 +42,7 @@ fn put_number(out: &mut [u8], at: usize, w: usize, x: u32)
     put_bytes(out, at, &bytes[4 - w..]);
 }
 
-// The range whose two numbers of w bytes begin at `at`. Those of a port are read as one number of four, in one load. Of an address the
+// The range whose two numbers of w bytes begin at `at`, which may be empty. Those of a port are read as one number of four, in one load. Of an address the
 // high is read first, and so the compiler also compares it first: one compare less for a piece that lies below an allow, one more for
 // a piece above it.
 fn range_at(s: &[u8], at: usize, w: usize) -> Range
