@@ -1,13 +1,13 @@
 // Whether a box has a packet, and lookup of a packet in list bytes.
 #![tactic(auto)]
 
-ghost use Rattle.std.specs.Prelude.{◌≡◌, ◌≤◌, length, drop};
+ghost use Rattle.std.specs.Prelude.{◌≡◌, ◌≤◌, length, drop, IfOk};
 ghost use Rattle.policy.specs.Fields.{count_size, limits};
 ghost use Rattle.policy.specs.Ranges.{within, inside, Whole};
 ghost use Rattle.policy.specs.Values.{range_of, packet_of, region_of};
 ghost use Rattle.wire.specs.Records.{rules_in};
 ghost use Rattle.filter.specs.Lookup.{look_from, lookup, lookup_number, verdict};
-ghost use Rattle.filter.specs.Steps.{miss_of};
+ghost use Rattle.filter.specs.Steps.{miss_of, InTotal};
 ghost use Rattle.wire.specs.Lists.{list_size};
 
 use policy::{
@@ -103,12 +103,19 @@ pub fn lookup(p: Packet, list: &[u8]) -> Verdict
     lookup_within(TOTAL_MOST, p, list)
 }
 
-// The verdict as one number.
-pub fn lookup_number(p: Packet, list: &[u8]) -> u32
-    ensures { result ≡ lookup_number (lookup limits.total (packet_of p) list.now) }
+// A verdict as one number.
+pub fn verdict_number(v: Verdict) -> u32
+    requires { IfOk v InTotal }
+    ensures { result ≡ lookup_number (verdict v) }
 {
-    match lookup(p, list) {
+    match v {
         Ok(decision) => 2 * decision.place as u32 + decision.action,
         Err(f) => refused_number(f),
     }
+}
+
+pub fn lookup_number(p: Packet, list: &[u8]) -> u32
+    ensures { result ≡ lookup_number (lookup limits.total (packet_of p) list.now) }
+{
+    verdict_number(lookup(p, list))
 }
