@@ -13,7 +13,7 @@ ghost use Rattle.policy.specs.Move.{alone};
 ghost use Rattle.wire.specs.Records.{box_bytes, box_in, boxes_in};
 ghost use Rattle.groups.specs.Steps.{start_at, Workable, WorkedFrom, WorkedOut, capacity, stored_most, Stored, LaterStand, CutAt, FieldCut, Stands, Started, Untouched, Taken};
 
-use policy::{BOX_BYTES, Box, FIELDS, PIECES_MOST, RECORD_BYTES, Refusal};
+use policy::{BOX_BYTES, Box, FIELDS, PIECES_MOST, RECORD_BYTES, Range, Refusal};
 
 pub const WORK_BYTES: usize = 2 * PIECES_MOST * BOX_BYTES;
 
@@ -139,7 +139,11 @@ fn cut_field(
         stored: below,
     };
     let stored = store_high(work, half, at, after_low, k, ends);
-    let rest = rest.narrow(k, larger(ends.low, ends.from), smaller(ends.high, ends.to));
+    let both = Range {
+        low: larger(ends.low, ends.from),
+        high: smaller(ends.high, ends.to),
+    };
+    let rest = rest.narrow(k, both);
     Underway { rest, stored }
 }
 
@@ -152,22 +156,20 @@ fn cut_box(work: &mut [u8], half: usize, n: usize, at: usize, d: Box, a: Box) ->
     let mut done = Underway { rest: d, stored: n };
     let mut k: usize = 0;
     while k < FIELDS {
-        let low = d.low_at(k);
-        let high = d.high_at(k);
-        let from = a.low_at(k);
-        let to = a.high_at(k);
+        let own = d.range(k);
+        let other = a.range(k);
         let ends = Ends {
-            low,
-            high,
-            from,
-            to,
+            low: own.low,
+            high: own.high,
+            from: other.low,
+            to: other.high,
         };
         // A field that lies in the allow's gives no part. Two calls and not one, so that the compiler unrolls this loop before it puts
         // `cut_field` into it.
-        if low < from {
+        if own.low < other.low {
             done = cut_field(work, half, at, done, k, ends);
         } else {
-            if to < high {
+            if other.high < own.high {
                 done = cut_field(work, half, at, done, k, ends);
             }
         }
