@@ -1,16 +1,16 @@
 -- Laws on numbers in bytes: what is written is read back, and what is read is written back. Assumes nothing.
 use mathlib.Core.Path.{◌≡◌, refl, ap, sym, ◌∙◌}
-use mathlib.Core.List.{List, [], ◌∷◌, ◌++◌, append-nil}
+use mathlib.Core.List.{List, [], ◌∷◌, ◌++◌}
 use mathlib.Core.Bool.{Bool, true, false, false≢true}
 use Prim.Native.Nat.{ℕ, zero, suc, ◌+◌, ◌-◌, ◌*◌, ◌/◌, ◌%◌, ◌^◌, ◌<◌, ◌≤◌}
 use native.Mathlib.Omega.{arith}
 use native.Mathlib.Nat.{pow-suc, div-lt_iff_lt-mul}
+use native.Mathlib.Numerals.{add-one}
 use lib.Dec.{leb}
-use lib.ListN.{length, get_or, drop, take, length-append, length-take, length-drop}
-use lib.Seq.{take-suc, take_all, length-take-le}
-use borrow.Author.Tests.{leb-true, leb-false, ne_eqb}
-use borrow.Rule.Slice.PartMut.{mid_of, put_mid, same_len_mid}
-use Rattle.std.specs.Int.{w32, to_be_bytes, from_be_bytes}
+use lib.ListN.{length, get_or, drop, take, length-append}
+use lib.Seq.{drop-cons, take-suc, take_all, length-take-le}
+use borrow.Author.Tests.{leb-true, leb-false, eqb-true, ne_eqb}
+use Rattle.std.specs.Int.{w32, to_be_bytes, swap_bytes}
 use Rattle.lists.specs.Lists.{Each}
 use Rattle.lists.proofs.Lists.{each_take, each-drop}
 use Rattle.wire.specs.Numbers.{number_bytes, number_from, number_in, Byte}
@@ -85,6 +85,35 @@ bytes_back (suc w) s e h =
     let r : number_bytes w (number_in t) ≡ t = bytes_back w t (length-take-le w s (omega arith)) (bytes_take w s h) in
     rw (d, m, r) (sym (take-suc s w 0 (omega arith)) ∙ take_all (suc w) s (omega arith))
 
+-- The number that begins at a byte, byte by byte.
+step : (x : ℕ) (s : List ℕ) (at next w : ℕ) → at < length s → next ≡ at + 1
+    → number_from x (take (suc w) (drop at s)) ≡ number_from (x * 256 + get_or s at 0) (take w (drop next s))
+unfolding number_from
+step x s at next w h e = rw (drop-cons s at 0 h, e, add-one)
+
+pub one_byte : (s : List ℕ) (at : ℕ) → at + 1 ≤ length s → number_in (take 1 (drop at s)) ≡ get_or s at 0
+unfolding number_from
+one_byte s at h = step 0 s at (at + 1) 0 (omega arith) refl ∙ omega arith
+
+pub two_bytes : (s : List ℕ) (at : ℕ) → at + 2 ≤ length s → number_in (take 2 (drop at s)) ≡ get_or s at 0 * 256 + get_or s (at + 1) 0
+unfolding number_from
+two_bytes s at h =
+    step 0 s at (at + 1) 1 (omega arith) refl ∙ step (0 * 256 + get_or s at 0) s (at + 1) (at + 2) 0 (omega arith) (omega arith) ∙ omega arith
+
+pub four_bytes : (s : List ℕ) (at : ℕ) → at + 4 ≤ length s
+    → number_in (take 4 (drop at s)) ≡ get_or s at 0 * 16777216 + get_or s (at + 1) 0 * 65536 + get_or s (at + 2) 0 * 256 + get_or s (at + 3) 0
+unfolding number_from
+four_bytes s at h =
+    step 0 s at (at + 1) 3 (omega arith) refl ∙ step (0 * 256 + get_or s at 0) s (at + 1) (at + 2) 2 (omega arith) (omega arith)
+    ∙ step ((0 * 256 + get_or s at 0) * 256 + get_or s (at + 1) 0) s (at + 2) (at + 3) 1 (omega arith) (omega arith)
+    ∙ step (((0 * 256 + get_or s at 0) * 256 + get_or s (at + 1) 0) * 256 + get_or s (at + 2) 0) s (at + 3) (at + 4) 0 (omega arith) (omega arith)
+    ∙ omega arith
+
+-- A width that is neither 4 nor 2 is 1.
+pub last_width : (w : ℕ) → is_width w ≡ true → (w ≡ 4 → ⊥) → (w ≡ 2 → ⊥) → w ≡ 1
+unfolding is_width
+last_width w h n m = eqb-true w 1 (rw (ne_eqb w 4 n, ne_eqb w 2 m) at h)
+
 -- A width is at most 4.
 pub width_most : (w : ℕ) → is_width w ≡ true → w ≤ 4
 unfolding is_width
@@ -99,32 +128,6 @@ width_most w h = go (leb w 4) refl
         let n1 : w ≡ 1 → ⊥ = λ k. omega arith in
         absurd (false≢true (rw (ne_eqb w 4 n4, ne_eqb w 2 n2, ne_eqb w 1 n1) at h))
 
--- Four bytes, the last w of them read and zero before them, say what the w say.
-zeros_before : (w : ℕ) (s : List ℕ) → w ≤ 4 → number_in (put_mid (4 - w) (4 - (4 - w)) (0 ∷ 0 ∷ 0 ∷ 0 ∷ []) s) ≡ number_in s
-unfolding number_from
-zeros_before zero s h = ap number_in (append-nil s)
-zeros_before (suc zero) s h = ap number_in (append-nil s)
-zeros_before (suc (suc zero)) s h = ap number_in (append-nil s)
-zeros_before (suc (suc (suc zero))) s h = ap number_in (append-nil s)
-zeros_before (suc (suc (suc (suc zero)))) s h = ap number_in (append-nil s)
-zeros_before (suc (suc (suc (suc (suc w))))) s h = absurd (omega arith)
-
-four_number : (s : List ℕ) → length s ≡ 4 → from_be_bytes w32 s ≡ number_in s
-unfolding number_from
-four_number [] h = absurd (omega arith)
-four_number (a ∷ []) h = absurd (omega arith)
-four_number (a ∷ b ∷ []) h = absurd (omega arith)
-four_number (a ∷ b ∷ c ∷ []) h = absurd (omega arith)
-four_number (a ∷ b ∷ c ∷ d ∷ []) h = omega arith
-four_number (a ∷ b ∷ c ∷ d ∷ (e ∷ s)) h = absurd (omega arith)
-
-pub number_read : (w : ℕ) (s bytes : List ℕ) → w ≤ 4 → length s ≡ w → bytes ≡ s
-    → from_be_bytes w32 (put_mid (4 - w) (4 - (4 - w)) (0 ∷ 0 ∷ 0 ∷ 0 ∷ []) bytes) ≡ number_in s
-number_read w s bytes h l e =
-    let zeros : List ℕ = 0 ∷ 0 ∷ 0 ∷ 0 ∷ [] in
-    let k : length bytes ≡ length (mid_of (4 - w) (4 - (4 - w)) zeros) = rw (e, length-take, length-drop) (omega arith) in
-    four_number (put_mid (4 - w) (4 - (4 - w)) zeros bytes) (same_len_mid (4 - w) (4 - (4 - w)) zeros bytes k) ∙ (ap (λ (t : List ℕ). number_in (put_mid (4 - w) (4 - (4 - w)) zeros t)) e ∙ zeros_before w s h)
-
 -- The last w of a number's four bytes.
 pub last_bytes : (w x : ℕ) (bytes : List ℕ) → w ≤ 4 → bytes ≡ to_be_bytes w32 x → take (4 - (4 - w)) (drop (4 - w) bytes) ≡ number_bytes w x
 unfolding number_bytes
@@ -138,16 +141,12 @@ last_bytes (suc (suc (suc (suc zero)))) x bytes h e =
     rw (e, f, g) refl
 last_bytes (suc (suc (suc (suc (suc w))))) x bytes h e = absurd (omega arith)
 
--- Two numbers of two bytes each, in one number of four.
-pub halves : (s : List ℕ) → 4 ≤ length s → Each Byte s → (number_in (take 4 s) / 65536 ≡ number_in (take 2 s)) × (number_in (take 4 s) % 65536 ≡ number_in (take 2 (drop 2 s)))
-unfolding number_from Each
-halves [] h b = absurd (omega arith)
-halves (x ∷ []) h b = absurd (omega arith)
-halves (x ∷ y ∷ []) h b = absurd (omega arith)
-halves (x ∷ y ∷ z ∷ []) h b = absurd (omega arith)
-halves (x ∷ y ∷ z ∷ v ∷ s) h b =
-    let bx = b.0 in
-    let by = b.1.0 in
-    let bz = b.1.1.0 in
-    let bv = b.1.1.1.0 in
+-- Four bytes summed as if the lowest came first, and turned: each half is a number of two bytes.
+pub turned_halves : (a b c d : ℕ) {x r : ℕ} → a < 256 → b < 256 → c < 256 → d < 256 → x ≡ a + b * 256 + c * 65536 + d * 16777216 → r ≡ swap_bytes w32 x
+    → (r / 65536 ≡ a * 256 + b) × (r % 65536 ≡ c * 256 + d)
+turned_halves a b c d {x = x} ha hb hc hd e f =
+    let e0 : x % 256 ≡ a = omega arith in
+    let e1 : x / 256 % 256 ≡ b = omega arith in
+    let e2 : x / 65536 % 256 ≡ c = omega arith in
+    let e3 : x / 16777216 % 256 ≡ d = omega arith in
     (omega arith, omega arith)

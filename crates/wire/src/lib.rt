@@ -22,22 +22,25 @@ struct Range {
     high: u32,
 }
 
-// The number of w bytes that begin at `at`: they are the last of four, with zero before them. Where w is known, the compiler makes one
-// load of it.
-pub fn number_at(s: &[u8], at: usize, w: usize) -> u32
-    requires { (at + w ≤ length s.now) × (is_width w ≡ true) }
-    ensures { result ≡ number_in (take w (drop at s.now)) }
-{
-    let mut bytes = [0u8; 4];
-    bytes[4 - w..].copy_from_slice(&s[at..at + w]);
-    u32::from_be_bytes(bytes)
-}
-
+// A sum over the bytes: tried by from_be_bytes, a lookup took 0.88 to 0.93 of the instructions, and a move up to 1.07 of them.
 pub fn four_at(s: &[u8], at: usize) -> u32
     requires { at + 4 ≤ length s.now }
     ensures { result ≡ number_in (take 4 (drop at s.now)) }
 {
-    number_at(s, at, 4)
+    s[at] as u32 * 16777216 + s[at + 1] as u32 * 65536 + s[at + 2] as u32 * 256 + s[at + 3] as u32
+}
+
+// The number of w bytes that begin at `at`. An arm for each width: tried as one loop over the bytes, a lookup took 1.3 to 1.5 of the
+// instructions.
+pub fn number_at(s: &[u8], at: usize, w: usize) -> u32
+    requires { (at + w ≤ length s.now) × (is_width w ≡ true) }
+    ensures { result ≡ number_in (take w (drop at s.now)) }
+{
+    match w {
+        4 => four_at(s, at),
+        2 => s[at] as u32 * 256 + s[at + 1] as u32,
+        _ => s[at] as u32,
+    }
 }
 
 // The last w bytes of x. Where w is known, the compiler makes one store of it.
@@ -49,15 +52,20 @@ fn put_number(out: &mut [u8], at: usize, w: usize, x: u32)
     put_bytes(out, at, &bytes[4 - w..]);
 }
 
-// The range whose two numbers of w bytes begin at `at`. Those of a port are read as one number of four, in one load. Of an address the
-// high is read first, and so the compiler also compares it first: one compare less for a piece that lies below an allow, one more for
-// a piece above it.
+// The range whose two numbers of w bytes begin at `at`. Those of a port are read at once, as the halves of one number: summed as if the
+// lowest byte came first, and turned, since the compiler makes one load of that, and two of the parts of four_at's sum. Of the others
+// the high is read first, and so the compiler also compares it first: one compare less for a piece that lies below an allow, one more
+// for a piece above it.
 fn range_at(s: &[u8], at: usize, w: usize) -> Range
     requires { (at + w + w ≤ length s.now) × (is_width w ≡ true) }
     ensures { (result.low ≡ number_in (take w (drop at s.now))) × (result.high ≡ number_in (take w (drop (at + w) s.now))) }
 {
     if w == 2 {
-        let both = four_at(s, at);
+        let turned = s[at] as u32
+            + s[at + 1] as u32 * 256
+            + s[at + 2] as u32 * 65536
+            + s[at + 3] as u32 * 16777216;
+        let both = turned.swap_bytes();
         return Range {
             low: both / 65536,
             high: both % 65536,
