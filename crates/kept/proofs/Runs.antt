@@ -74,6 +74,17 @@ module _ (earlier gone : ℕ) (s : List ℕ) (there : run_size (earlier + gone) 
       let l : length part ≡ length s - at = ap length (tail_whole s at part_inside) ∙ length-drop at s in
       omega (arith, part_boxes)
 
+-- The gap behind the first groups, whose boxes are counted: where it begins, and with the boxes of those that go, how many there are.
+module _ (earlier gone : ℕ) (s : List ℕ) (there : run_size (earlier + gone) s ≤ length s) {front : ℕ} (counted : front ≡ box_count earlier s) where
+  pub gap_begins : count_size * earlier + box_size * front ≡ run_size earlier s
+  gap_begins = ap (λ (n : ℕ). count_size * earlier + box_size * n) counted
+
+  pub gap_inside : count_size * earlier + box_size * front ≤ length s
+  gap_inside = part_inside earlier gone s there (count_size * earlier + box_size * front) gap_begins
+
+  pub gap_counted : {boxes : ℕ} → boxes ≡ box_count gone (part earlier gone s there (count_size * earlier + box_size * front) gap_begins) → boxes + box_count earlier s ≡ box_count (earlier + gone) s
+  gap_counted e = rw e (part_boxes earlier gone s there (count_size * earlier + box_size * front) gap_begins)
+
 -- Groups that are held: a front of them is held too.
 pub groups_count_lem : (n : ℕ) (s : List ℕ) → length (groups_from n s) ≡ n
 unfolding groups_from
