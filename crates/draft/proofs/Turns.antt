@@ -9,7 +9,7 @@ use lib.Seq.{sets, length-take-le}
 use Rattle.lists.proofs.Parts.{tail_sets}
 use Rattle.policy.specs.Fields.{box_size, count_size, record_size, limits, work_size}
 use Rattle.policy.specs.Ranges.{Region}
-use Rattle.policy.specs.Rules.{is_allow}
+use Rattle.policy.specs.Rules.{Rule, is_allow}
 use Rattle.policy.specs.Cut.{group}
 use Rattle.policy.specs.Move.{over}
 use Rattle.policy.proofs.Groups.{over_few}
@@ -62,6 +62,10 @@ module _ {ds : List Region} {rules : List ℕ} {i : ℕ} {w w' : List ℕ} where
       let z = worked_boxes x in
       let f = over_few limits.pieces ds (allows_at i rules) z.0 h in
       omega arith
+
+-- what the rule that was read tells of the rule at a place
+pub allow_told : (rules : List ℕ) (i : ℕ) {r : Rule} {told answer : Bool} → r ≡ rule_in (drop (record_size * i) rules) → told ≡ is_allow r → told ≡ answer → is_allow (rule_in (drop (record_size * i) rules)) ≡ answer
+allow_told rules i e f g = rw e at (sym f ∙ g)
 
 module _ (start : Region → List Region) {rules : List ℕ} {i : ℕ} {draft : List ℕ} {at boxes : ℕ} {w : List ℕ} (ready : Ready rules i (i + 1) draft at boxes w) where
   pub drafted_allow : is_allow (rule_in (drop (record_size * i) rules)) ≡ true → DraftedGroups start rules i (i + 1) draft at boxes w (Ok (record { groups = 0; boxes = boxes; end = at })) draft w
