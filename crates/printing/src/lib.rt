@@ -7,9 +7,9 @@ ghost use Rattle.policy.specs.Fields.{count_size};
 
 use groups::WORK_BYTES;
 use listing::{CELL_LIST_BYTES, GATE_LIST_BYTES};
-use policy::{Answer, COUNT_BYTES, FIELDS, RECORD_BYTES, Refusal, Rule, number_of};
+use policy::{Answer, COUNT_BYTES, RECORD_BYTES, Refusal, Rule, number_of};
 use sheet::PAIR_BYTES;
-use std::io;
+use std::{fmt, io};
 
 pub fn print_text(rt: &impl Print, text: &[u8]) -> io::Result<()> {
     rt.write_all(text)
@@ -19,60 +19,46 @@ pub fn print_number(rt: &impl Print, n: usize) -> io::Result<()> {
     print!(rt; "{n}")
 }
 
-// One range of a rule, low-high.
-fn print_range(rt: &impl Print, low: u32, high: u32) -> io::Result<()> {
-    print!(rt; " {low}-{high}")
-}
+// A rule's line: its action, and its ranges low-high.
+#[derive(Clone, Copy)]
+struct Line(Rule);
 
-fn print_action(rt: &impl Print, action: u32) -> io::Result<()> {
-    if action == 1 {
-        print_text(rt, b"allow")
-    } else {
-        print_text(rt, b"deny")
+impl fmt::Display for Line {
+    fn fmt<W: fmt::Write>(&self, f: &mut fmt::Formatter<W>) -> fmt::Result {
+        let bounds = self.0.bounds;
+        f.write_str(if self.0.is_allow() { "allow" } else { "deny" })?;
+        for (low, high) in bounds.low.iter().zip(bounds.high.iter()) {
+            write!(f, " {low}-{high}")?;
+        }
+        Ok(())
     }
-}
-
-// One rule's line.
-fn print_rule(rt: &impl Print, rule: Rule) -> io::Result<()> {
-    print_action(rt, rule.action)?;
-    let bounds = rule.bounds;
-    for k in 0..FIELDS {
-        print_range(rt, bounds.low_at(k), bounds.high_at(k))?;
-    }
-    print_text(rt, b"\n")
 }
 
 // A line for each rule of a list.
 fn print_rules(rt: &impl Print, list: &[u8]) -> io::Result<()>
     requires { count_size ≤ length list.now }
 {
-    let mut left = wire::count_at(list, 0);
-    let mut at = COUNT_BYTES;
-    while 0 < left {
-        if list.len() - at < RECORD_BYTES {
-            return Ok(());
-        }
-        print_rule(rt, wire::rule_at(list, at))?;
-        at += RECORD_BYTES;
-        left -= 1;
+    let count = wire::count_at(list, 0);
+    let records = list[COUNT_BYTES..].chunks_exact(RECORD_BYTES);
+    for record in records.take(count) {
+        rt.println(Line(wire::rule_at(record, 0)))?;
     }
     Ok(())
 }
 
-fn print_header(rt: &impl Print, up: usize, down: usize) -> io::Result<()> {
-    println!(rt; "up {up} down {down}")
-}
-
 pub fn print_refusal(rt: &impl Print, f: Refusal) -> io::Result<()> {
-    let number = number_of(f);
-    println!(rt; "refused {number}")
+    println!(rt; "refused {}", number_of(f))
 }
 
 // The two lists, from their bytes.
 fn print_both(rt: &impl Print, gate: &[u8], cell: &[u8]) -> io::Result<()>
     requires { (count_size ≤ length gate.now) × (count_size ≤ length cell.now) }
 {
-    print_header(rt, wire::count_at(gate, 0), wire::count_at(cell, 0))?;
+    println!(rt;
+        "up {} down {}",
+        wire::count_at(gate, 0),
+        wire::count_at(cell, 0)
+    )?;
     print_rules(rt, cell)
 }
 
