@@ -11,7 +11,7 @@ use sheet::PAIR_BYTES;
 use std::io;
 use std::io::Read;
 
-// More cases than any stream has.
+// A stream is played up to so many cases.
 const CASES_MOST: u64 = 1000000;
 
 // The bytes of the longest order sheet that a stream can have: their number has two bytes.
@@ -33,7 +33,7 @@ struct Edit {
     change: Change,
 }
 
-// A pair sheet and its length.
+// A pair sheet in its buffer, and its length, as the calls for C take them.
 #[derive(Clone, Copy)]
 struct Pair {
     sheet: [u8; PAIR_BYTES],

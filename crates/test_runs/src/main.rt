@@ -241,8 +241,8 @@ fn wanted(lists: &mut Lists, e: &Edit, fresh: &mut [u8]) -> Outcome {
     moved(lists, fresh)
 }
 
-// The lists as the accepted edits left them, and their pair sheet, with its length. `kept` is a copy of the last fresh move that
-// was accepted, and is lent to no call.
+// The lists as the accepted edits left them, and their pair sheet in its buffer with its length, as the calls for C take them.
+// `kept` is a copy of the last fresh move that was accepted, and is lent to no call.
 #[derive(Clone, Copy)]
 struct Run {
     lists: Lists,
