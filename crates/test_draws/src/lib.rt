@@ -3,7 +3,7 @@
 
 pub mod order;
 
-ghost use Rattle.std.specs.Prelude.{◌+◌, ◌<◌, ◌≤◌, length};
+ghost use Rattle.std.specs.Prelude.{◌≡◌, ◌+◌, ◌<◌, ◌≤◌, length, take};
 ghost use Rattle.policy.specs.Fields.{fields, record_size};
 
 use order::{ALLOW, DENY, Lists, full};
@@ -26,12 +26,14 @@ pub struct Edit {
 
 impl Edit {
     // The bytes that are lent as the record.
-    pub fn bytes(&self) -> &[u8] {
+    pub fn bytes(&self) -> &[u8]
+        ensures { result.now ≡ take self.now.size self.now.bytes }
+    {
         &self.bytes[..self.size]
     }
 
     // The record that they are, or its refusal.
-    pub fn record(&self) -> Result<[u8; RECORD_BYTES], Refusal> {
+    pub(crate) fn record(&self) -> Result<[u8; RECORD_BYTES], Refusal> {
         self.bytes().try_into().map_err(|_| Refusal::LengthWrong)
     }
 }
@@ -71,13 +73,16 @@ pub struct Draws {
 }
 
 impl Draws {
-    pub fn new(seed: u32, shape: Shape) -> Draws {
+    pub fn new(seed: u32, shape: Shape) -> Draws
+        ensures { (result.state ≡ seed) × (result.shape ≡ shape) }
+    {
         Draws { state: seed, shape }
     }
 
     // A number below n, for n from 1 to 32,768: the upper bits of a linear congruence.
     fn below(&mut self, n: u32) -> u32
-        ensures { result < 32768 }
+        ensures bits { result < 32768 }
+        ensures below { 0 < n → result < n }
     {
         let state = (self.state as u64 * 1103515245 + 12345) % 2147483648;
         self.state = state as u32;
@@ -100,7 +105,9 @@ impl Draws {
     }
 
     // A or B, and now and then neither.
-    fn which(&mut self) -> u32 {
+    fn which(&mut self) -> u32
+        ensures { result < 5 }
+    {
         if self.below(64) == 0 {
             return 2 + self.below(3);
         }
@@ -220,7 +227,9 @@ impl Draws {
     }
 
     // An edit of these lists.
-    pub fn edit(&mut self, lists: &Lists) -> Edit {
+    pub fn edit(&mut self, lists: &Lists) -> Edit
+        ensures { result.which < 5 }
+    {
         let change = self.change();
         let which = self.which();
         let place = self.place(lists.count(which), change);
