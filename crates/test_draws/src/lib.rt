@@ -7,7 +7,7 @@ ghost use Rattle.std.specs.Prelude.{◌≡◌, ◌+◌, ◌<◌, ◌≤◌, leng
 ghost use Rattle.policy.specs.Fields.{fields, record_size};
 
 use order::{ALLOW, DENY, Lists, full};
-use policy::{Box, FIELDS, HIGHEST, RECORD_BYTES, Refusal, Rule};
+use policy::{Box, FIELDS, HIGHEST, RECORD_BYTES, Range, Refusal, Rule};
 use promises::Change;
 
 // A record and a byte more, which no edit takes.
@@ -141,34 +141,38 @@ impl Draws {
         }
     }
 
-    // A box with field k narrowed to a range.
-    fn range(&mut self, bounds: Box, k: usize) -> Box
+    // A range of field k, of one value or of some.
+    fn range(&mut self, k: usize) -> Range
         requires { k < fields }
     {
         let value = self.below(self.shape.span);
         if self.below(16) < self.shape.ends {
-            return bounds.narrow(k, value, HIGHEST[k]);
+            return Range {
+                low: value,
+                high: HIGHEST[k],
+            };
         }
         if self.below(16) < self.shape.ends {
-            return bounds.narrow(k, 0, value);
+            return Range {
+                low: 0,
+                high: value,
+            };
         }
         if self.below(2) == 0 {
-            return bounds.narrow(k, value, value);
+            return Range {
+                low: value,
+                high: value,
+            };
         }
-        bounds.narrow(k, value, value + self.below(8))
+        Range {
+            low: value,
+            high: value + self.below(8),
+        }
     }
 
-    // A box with field k narrowed if it is the field that always is, and now and then if it is not.
-    fn field(&mut self, bounds: Box, k: usize, always: usize) -> Box
-        requires { k < fields }
-    {
-        if self.shape.fields as usize <= k {
-            return bounds;
-        }
-        if k == always || self.below(8) < self.shape.narrow {
-            return self.range(bounds, k);
-        }
-        bounds
+    // Whether field k is narrowed: the one that always is, and now and then another.
+    fn narrows(&mut self, k: usize, always: usize) -> bool {
+        k < self.shape.fields as usize && (k == always || self.below(8) < self.shape.narrow)
     }
 
     // A box that is narrowed in one field at least.
@@ -176,7 +180,9 @@ impl Draws {
         let always = self.below(self.shape.fields) as usize;
         let mut bounds = full(DENY).bounds;
         for k in 0..FIELDS {
-            bounds = self.field(bounds, k, always);
+            if self.narrows(k, always) {
+                bounds = bounds.narrow(k, self.range(k));
+            }
         }
         bounds
     }
@@ -186,8 +192,12 @@ impl Draws {
         let k = self.below(8) as usize;
         let value = self.below(100);
         if k < FIELDS {
+            let empty = Range {
+                low: value + 1,
+                high: value,
+            };
             return Rule {
-                bounds: bounds.narrow(k, value + 1, value),
+                bounds: bounds.narrow(k, empty),
                 action: ALLOW,
             };
         }
