@@ -7,7 +7,7 @@ ghost use Rattle.policy.specs.Fields.{count_size};
 
 use groups::WORK_BYTES;
 use listing::{CELL_LIST_BYTES, GATE_LIST_BYTES};
-use policy::{Answer, COUNT_BYTES, RECORD_BYTES, Refusal, Rule, number_of};
+use policy::{COUNT_BYTES, RECORD_BYTES, Refusal, Rule, number_of};
 use sheet::PAIR_BYTES;
 use std::{fmt, io};
 
@@ -50,36 +50,31 @@ pub fn print_refusal(rt: &impl Print, f: Refusal) -> io::Result<()> {
     println!(rt; "refused {}", number_of(f))
 }
 
-// The two lists, from their bytes.
-fn print_both(rt: &impl Print, gate: &[u8], cell: &[u8]) -> io::Result<()>
+// Both lists of what an order sheet is moved to.
+fn put_lists(order: &[u8], gate: &mut [u8], cell: &mut [u8]) -> Result<(), Refusal> {
+    let mut sheet = [0; PAIR_BYTES];
+    let mut work = [0; WORK_BYTES];
+    let n = moving::move_order(order, &mut sheet, &mut work)?;
+    let pair = &sheet[..n];
+    listing::gate_list(pair, gate, &mut work)?;
+    listing::cell_list(pair, cell, &mut work)?;
+    Ok(())
+}
+
+fn print_lists(rt: &impl Print, gate: &[u8], cell: &[u8]) -> io::Result<()>
     requires { (count_size ≤ length gate.now) × (count_size ≤ length cell.now) }
 {
-    println!(rt;
-        "up {} down {}",
-        wire::count_at(gate, 0),
-        wire::count_at(cell, 0)
-    )?;
+    let up = wire::count_at(gate, 0);
+    let down = wire::count_at(cell, 0);
+    println!(rt; "up {up} down {down}")?;
     print_rules(rt, cell)
 }
 
-// The two lists of a pair sheet.
-fn print_lists(rt: &impl Print, sheet: &[u8], work: &mut [u8]) -> io::Result<()> {
-    let mut gate = [0u8; GATE_LIST_BYTES];
-    let mut cell = [0u8; CELL_LIST_BYTES];
-    match listing::gate_list(sheet, &mut gate, work) {
-        Answer::Refused(f) => print_refusal(rt, f),
-        Answer::Length(_) => match listing::cell_list(sheet, &mut cell, work) {
-            Answer::Refused(f) => print_refusal(rt, f),
-            Answer::Length(_) => print_both(rt, &gate, &cell),
-        },
-    }
-}
-
 pub fn print_plan(rt: &impl Print, order: &[u8]) -> io::Result<()> {
-    let mut sheet = [0u8; PAIR_BYTES];
-    let mut work = [0u8; WORK_BYTES];
-    match moving::move_order(order, &mut sheet, &mut work) {
-        Answer::Refused(f) => print_refusal(rt, f),
-        Answer::Length(n) => print_lists(rt, &sheet[..n], &mut work),
+    let mut gate = [0; GATE_LIST_BYTES];
+    let mut cell = [0; CELL_LIST_BYTES];
+    match put_lists(order, &mut gate, &mut cell) {
+        Ok(()) => print_lists(rt, &gate, &cell),
+        Err(f) => print_refusal(rt, f),
     }
 }

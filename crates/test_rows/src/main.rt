@@ -5,9 +5,9 @@ ghost use Rattle.std.specs.Prelude.{◌≤◌, ◌<◌};
 ghost use Rattle.policy.specs.Fields.{fields};
 
 use groups::WORK_BYTES;
-use policy::{Answer, Rule};
+use policy::{Range, Rule};
 use printing::print_refusal;
-use sheet::{PAIR_BYTES, PairParts};
+use sheet::PAIR_BYTES;
 use std::io;
 use test_draws::order::{ALLOW, DENY, Sheet, full};
 
@@ -15,8 +15,12 @@ use test_draws::order::{ALLOW, DENY, Sheet, full};
 fn single(field: usize, value: u32) -> Rule
     requires { field < fields }
 {
+    let range = Range {
+        low: value,
+        high: value,
+    };
     Rule {
-        bounds: full(ALLOW).bounds.narrow(field, value, value),
+        bounds: full(ALLOW).bounds.narrow(field, range),
         action: ALLOW,
     }
 }
@@ -85,8 +89,8 @@ fn cube() -> Sheet {
 
 fn print_boxes(rt: &impl Print, sheet: &[u8]) -> io::Result<()> {
     match sheet::read_pair(sheet) {
-        PairParts::Refused(_) => println!(rt; "no pair sheet"),
-        PairParts::Parts(layout) => println!(rt; "{} boxes", layout.boxes),
+        Ok(layout) => println!(rt; "{} boxes", layout.boxes),
+        Err(_) => println!(rt; "no pair sheet"),
     }
 }
 
@@ -94,8 +98,8 @@ fn print_move(rt: &impl Print, order: &Sheet) -> io::Result<()> {
     let mut sheet = [0; PAIR_BYTES];
     let mut work = [0; WORK_BYTES];
     match moving::move_order(order.bytes(), &mut sheet, &mut work) {
-        Answer::Refused(f) => print_refusal(rt, f),
-        Answer::Length(n) => print_boxes(rt, &sheet[..n]),
+        Ok(n) => print_boxes(rt, &sheet[..n]),
+        Err(f) => print_refusal(rt, f),
     }
 }
 
