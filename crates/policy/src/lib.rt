@@ -52,6 +52,12 @@ pub struct Box {
     pub high: [u32; FIELDS],
 }
 
+// The box that has every packet.
+pub const FULL: Box = Box {
+    low: [0; FIELDS],
+    high: HIGHEST,
+};
+
 #[repr(C)]
 #[derive(Clone, Copy)]
 pub struct Rule {

@@ -3,14 +3,14 @@
 use Rattle.std.specs.Prelude.{Ok, Err}
 use mathlib.Core.Path.{◌≡◌, refl, ap, sym, ◌∙◌}
 use mathlib.Core.List.{List, [], ◌∷◌, ◌++◌, map, append_assoc}
-use mathlib.Core.Bool.{Bool, true, false, not}
+use mathlib.Core.Bool.{Bool, true, false}
 use Prim.Native.Nat.{ℕ, ◌+◌, ◌<◌, ◌≤◌}
 use native.Mathlib.Omega.{arith}
 use native.Mathlib.Numerals.{add-one}
 use lib.Dec.{leb, eqb}
 use lib.ListN.{length, take, drop, get_or, set, length-append, length-map, length-drop}
 use lib.Seq.{sets, sets-eq, take_at, drop_at, take-add, take-suc, length-take-le, get_or_at, get_or-drop, length-sets, take_all}
-use borrow.Author.Tests.{not-true, not-false, le-leb, lt-leb, eq-eqb, ne_eqb, leb-true, eqb-true}
+use borrow.Author.Tests.{le-leb, lt-leb, eq-eqb, ne_eqb, leb-true, eqb-true}
 use Rattle.lists.specs.Lists.{Each}
 use Rattle.lists.proofs.Lists.{append-none, sets-append}
 use Rattle.policy.specs.Fields.{fields, widths, record_size}
@@ -78,14 +78,14 @@ module _ (s ns : List ℕ) where
     not_a_record h = read_refused LengthWrong (rw (le-leb numbers_size (length ns) room, ne_eqb (length s) record_size h) refl)
 
     module _ (long : length s ≡ record_size) (r : Rule) (is : r ≡ rule_in s) (t : Bool) (e : t ≡ sound r) where
-      pub bad_record : not t ≡ true → RecordRead s ns (Err RuleBad) ns
+      pub bad_record : t ≡ false → RecordRead s ns (Err RuleBad) ns
       unfolding reading_of room_for
-      bad_record h = read_refused RuleBad (rw (le-leb numbers_size (length ns) room, eq-eqb (length s) record_size long, ← is, ← e, not-true t h) refl)
+      bad_record h = read_refused RuleBad (rw (le-leb numbers_size (length ns) room, eq-eqb (length s) record_size long, ← is, ← e, h) refl)
 
-      pub record_read : not t ≡ false → (ns' : List ℕ) → ns' ≡ sets ns 0 (rule_numbers r) → RecordRead s ns (Ok 0) ns'
+      pub record_read : t ≡ true → (ns' : List ℕ) → ns' ≡ sets ns 0 (rule_numbers r) → RecordRead s ns (Ok 0) ns'
       unfolding reading_of answered written room_for
       record_read h ns' u =
-          let g : sound r ≡ true = sym e ∙ not-false t h in
+          let g : sound r ≡ true = sym e ∙ h in
           let k : reading_of s ns ≡ accepted r = rw (le-leb numbers_size (length ns) room, eq-eqb (length s) record_size long, ← is, g) refl in
           record {
             answer = ap (answered 0) (sym k);
@@ -108,14 +108,14 @@ module _ (ns out : List ℕ) where
     few_bytes h = write_refused BufferShort (rw (le-leb numbers_size (length ns) all, lt-leb record_size (length out) h) refl)
 
     module _ (room : record_size ≤ length out) (r : Rule) (is : r ≡ numbers_rule ns) (t : Bool) (e : t ≡ sound r) where
-      pub bad_numbers : not t ≡ true → RecordWritten ns out (Err RuleBad) out
+      pub bad_numbers : t ≡ false → RecordWritten ns out (Err RuleBad) out
       unfolding writing_of room_for
-      bad_numbers h = write_refused RuleBad (rw (le-leb numbers_size (length ns) all, le-leb record_size (length out) room, ← is, ← e, not-true t h) refl)
+      bad_numbers h = write_refused RuleBad (rw (le-leb numbers_size (length ns) all, le-leb record_size (length out) room, ← is, ← e, h) refl)
 
-      pub record_written : not t ≡ false → (out' : List ℕ) → out' ≡ sets out 0 (record_bytes r) → RecordWritten ns out (Ok record_size) out'
+      pub record_written : t ≡ true → (out' : List ℕ) → out' ≡ sets out 0 (record_bytes r) → RecordWritten ns out (Ok record_size) out'
       unfolding writing_of answered written room_for
       record_written h out' u =
-          let g : sound r ≡ true = sym e ∙ not-false t h in
+          let g : sound r ≡ true = sym e ∙ h in
           let k : writing_of ns out ≡ accepted r = rw (le-leb numbers_size (length ns) all, le-leb record_size (length out) room, ← is, g) refl in
           record {
             answer = ap (answered record_size) (sym k);
