@@ -1,15 +1,20 @@
 -- The two loops over the pieces: how far an allow leaves them as they are, and what it leaves of the others.
 -- Assumes nothing.
-use mathlib.Core.Path.{◌≡◌, ap, sym, ◌∙◌}
+use mathlib.Core.Path.{◌≡◌, refl, ap, sym, ◌∙◌}
 use mathlib.Core.List.{List, [], ◌∷◌, ◌++◌, append_assoc}
-use Prim.Native.Nat.{ℕ, ◌+◌, ◌*◌, ◌<◌, ◌≤◌}
+use Prim.Native.Nat.{ℕ, zero, suc, ◌+◌, ◌*◌, ◌<◌, ◌≤◌}
 use native.Mathlib.Omega.{arith}
 use native.Mathlib.Numerals.{add-one}
 use lib.ListN.{length, take, drop, drop_of_length-le}
 use lib.Seq.{take-suc}
+use Rattle.std.specs.Prelude.{⊤, MatchOption, false}
+use Rattle.std.specs.declared.option.Option.{Option}
+use Rattle.std.specs.declared.option.Option.TheVariants.{Some, None}
+use Rattle.std.specs.Option.{unwrap_or}
+use Rattle.policy.proofs.Rest.{cut_whole}
 use Rattle.policy.specs.Fields.{fields, widths, box_size}
 use Rattle.policy.specs.Ranges.{Region}
-use Rattle.policy.specs.Cut.{cut, cut_each}
+use Rattle.policy.specs.Cut.{share, cut, cut_each}
 use Rattle.policy.proofs.Cuts.{cut_few}
 use Rattle.wire.specs.Records.{box_in, boxes_in}
 use Rattle.wire.proofs.Records.{fits-length, boxes_in-length, box_in_place}
@@ -26,6 +31,23 @@ untouched_next {n} {pieces} {a} {i} d g h e f =
       upto = omega arith;
       left = g.left ∙ rw (boxes_next n i pieces h, ← e, f, t) (sym (append_assoc (take i l) (d ∷ []) (cut_each (drop (i + 1) l) a)));
     }
+
+-- An allow leaves piece k as it is.
+abbrev pub Stays : List ℕ → Region → ℕ → Type 0
+Stays pieces a k = share (box_in (drop (box_size * k) pieces)) a ≡ false
+
+module _ {n : ℕ} {pieces : List ℕ} {a : Region} where
+  untouched_upto : (i : ℕ) → i ≤ n → ((k : ℕ) → k < i → Stays pieces a k) → Untouched n pieces a i
+  untouched_upto zero h stays = record { upto = omega arith; left = refl }
+  untouched_upto (suc i) h stays =
+      let next : i + 1 ≡ suc i = omega arith in
+      let d : Region = box_in (drop (box_size * i) pieces) in
+      rw next at (untouched_next d (untouched_upto i (omega arith) (λ k l. stays k (omega arith))) (omega arith) refl (cut_whole d a (stays i (omega arith))))
+
+  -- The first piece that does not stay, or all of them.
+  pub untouched_found : (r : Option ℕ) → MatchOption r ((k : ℕ) → 0 ≤ k → k < n → Stays pieces a k) (λ i. (0 ≤ i) × (i < n) × ⊤ × ((k : ℕ) → 0 ≤ k → k < i → Stays pieces a k)) → Untouched n pieces a (unwrap_or r n)
+  untouched_found None h = untouched_upto n (omega arith) (λ k l. h k (omega arith) l)
+  untouched_found (Some i) h = untouched_upto i (omega (arith, h.1)) (λ k l. h.3 k (omega arith) l)
 
 -- At piece i the pieces from `first` to there are done, and whatever is left of the later ones, stored behind the m boxes
 -- that stand, makes the whole.

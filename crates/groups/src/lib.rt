@@ -109,12 +109,9 @@ fn first_touched(pieces: &[u8], n: usize, a: Box) -> usize
     requires { box_size * n ≤ length pieces.now }
     ensures { Untouched n pieces.now (region_of a) result }
 {
-    for i in 0..n {
-        if wire::box_at(pieces, BOX_BYTES * i).shares(a) {
-            return i;
-        }
-    }
-    n
+    (0..n)
+        .find(|&i| wire::box_at(pieces, BOX_BYTES * i).shares(a))
+        .unwrap_or(n)
 }
 
 // What a leaves of the pieces from the first one touched on, stored behind as many others as stand before it.

@@ -1,11 +1,12 @@
--- `first_touched` meets its contract: the loop's invariant says that the pieces before piece i stay. Assumes nothing.
-use mathlib.Core.Path.{sym, ◌∙◌}
+-- `first_touched` meets its contract: the pieces before the one found stay. Assumes nothing.
+use Rattle.std.proofs.Common.{rules, tests}
+use Rattle.std.specs.Prelude.{⊤}
+use Rattle.std.proofs.lemmas.Iterator.{first_from_Range}
 use Rattle.policy.specs.Values.{region_of}
-use Rattle.policy.proofs.Rest.{cut_whole}
-use Rattle.groups.proofs.Passes.{untouched_next}
+use Rattle.groups.proofs.Passes.{Stays, untouched_found}
 use Rattle.groups.proofs.first_touched.Goals as goal
 
-pub loop-i-preserved : goal.loop-i-preserved
-loop-i-preserved c =
-    let d = region_of c.box_at.result in
-    untouched_next d c.loop-i.invariant c.loop-i-test.true c.box_at.ensures (cut_whole d (region_of c.args.a) (sym c.shares.ensures ∙ c.if-shares.false))
+pub returns : goal.returns
+returns c =
+    let stays = Stays c.args.pieces.now (region_of c.args.a) in
+    rw c.unwrap_or.ensures (untouched_found c.find.result (first_from_Range _ _ _ c.find.result (λ _. ⊤) stays c.find.ensures.ran (λ x q h. tt) (λ x q h. search (rules, tests))))
