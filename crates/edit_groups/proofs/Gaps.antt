@@ -1,4 +1,5 @@
 -- What an edit with one rule at most to work out knows: the gap in section C, and what is joined around it. Assumes nothing.
+use Rattle.std.specs.Prelude.{Result, Ok, Err}
 use mathlib.Core.Path.{◌≡◌, refl, ap, sym, ◌∙◌}
 use mathlib.Core.List.{List, ◌++◌}
 use Prim.Native.Nat.{ℕ, ◌+◌, ◌-◌, ◌≤◌}
@@ -8,6 +9,7 @@ use mir.Syntax.{w8}
 use lib.ListN.{length, take, drop, get_or, length-append, length-drop}
 use lib.Seq.{drop-drop}
 use Rattle.policy.specs.Refusals.{Answer}
+use Rattle.policy.specs.declared.Refusal.{Refusal}
 use Rattle.policy.specs.Fields.{count_size, limits}
 use Rattle.policy.specs.Ranges.{Region}
 use Rattle.policy.specs.Move.{Slot, boxes_of, together, groups_of}
@@ -16,20 +18,18 @@ use Rattle.lists.proofs.Lists.{map-append}
 use Rattle.sheet.specs.Pairs.{groups_bytes, group_bytes}
 use Rattle.sheet.specs.Steps.{groups_from, box_count}
 use Rattle.wire.proofs.Items.{bytes-append}
-use Rattle.sheet.proofs.Parts.{part_from}
 use Rattle.sheet.specs.declared.PairLayout.{PairLayout}
 use Rattle.kept.specs.Steps.{run_size, GroupsHeld}
 use Rattle.kept.specs.declared.Gap.{Gap}
 use Rattle.kept.proofs.Runs.{boxes_split, held_front, held_behind}
-use Rattle.draft.specs.Steps.{stretch, Told, Begins, Counted}
+use Rattle.draft.specs.Steps.{stretch, Told, Begins}
 use Rattle.draft.proofs.Drawn.{Behind}
 use Rattle.draft.specs.declared.Drafted.{Drafted}
-use Rattle.draft.specs.declared.Drafted.TheVariants.{Groups, TooManyPieces}
 use Rattle.edit_sheet.specs.Steps.{part_of, groups_at}
 use Rattle.edit_sheet.specs.declared.Kept.{Kept}
 use Rattle.edit_groups.specs.Steps.{kept_slots, slots_behind, Gathering, Gathered, Settling, Settled, Regrouping, Regrouped}
 use Rattle.edit_groups.specs.declared.Around.{Around}
-use Rattle.edit_groups.proofs.Settled.{Keeps, records_in, part_is, groups_long, rules_good, settle_ready, settle_done}
+use Rattle.edit_groups.proofs.Settled.{Keeps, part_is, groups_long, rules_good, settle_six, settle_ready, settle_done}
 
 module _ {start : Region → List Region} {sheet list w : List ℕ} {t : PairLayout} {v : Around} (ready : Regrouping start sheet t list v w) where
   abbrev from : ℕ
@@ -76,9 +76,6 @@ module _ {start : Region → List Region} {sheet list w : List ℕ} {t : PairLay
     abbrev back : List ℕ
     back = part_of (from + gap.next) used sheet
 
-    rules_are : records_in list ≡ drop count_size list
-    rules_are = part_from list count_size
-
     back_are : back ≡ drop gap.next groups
     back_are =
         part_is (from + gap.next) used sheet gap_inside ready.end ∙ sym (drop-drop gap.next from (take used sheet))
@@ -88,14 +85,14 @@ module _ {start : Region → List Region} {sheet list w : List ℕ} {t : PairLay
     back_is = rw next_is (held_behind v.later v.groups groups ready.placed.later ready.held ready.exact)
 
     module _ (keeps : Keeps start) (of_list : (i : ℕ) → Fits w8 (get_or list i 0)) (of_sheet : (i : ℕ) → Fits w8 (get_or sheet i 0)) where
-      pub gathering : v.to ≤ v.place + 1 → Gathering (records_in list) v.place v.to (boxes - gap.boxes) back w
+      pub gathering : v.to ≤ v.place + 1 → Gathering list v.place v.to (boxes - gap.boxes) back w
       gathering one =
           let q = ready.placed in
           let g = rules_good keeps ready of_list of_sheet v.to q.in_gate in
           let l : length back ≡ length groups - gap.next = ap length back_are ∙ length-drop gap.next groups in
           record {
-            records = rw rules_are g.0;
-            rules_sound = rw rules_are g.1;
+            records = omega (arith, ready.long, q.in_gate);
+            rules_sound = g.1;
             up_to = q.up_to;
             one = one;
             few = omega (arith, ready.held.few, ready.all);
@@ -110,10 +107,10 @@ module _ {start : Region → List Region} {sheet list w : List ℕ} {t : PairLay
       abbrev later : List (List Region)
       later = drop v.later (groups_from v.groups groups)
 
-      joined_behind : (r : Drafted) (s : List ℕ) → Told limits anew (boxes - gap.boxes) (Begins s (groups_bytes (groups_of anew) ++ back)) r → Behind (slots_behind start v groups (drop count_size list)) (box_count v.earlier groups) r s
+      joined_behind : (r : Result Drafted Refusal) (s : List ℕ) → Told limits anew (boxes - gap.boxes) (Begins s (groups_bytes (groups_of anew) ++ back)) r → Behind (slots_behind start v groups (drop count_size list)) (box_count v.earlier groups) r s
       unfolding Told
-      joined_behind TooManyPieces s y = record { told = over-append limits.pieces anew (kept_slots v.later v.groups groups) ∙ rw y }
-      joined_behind (Groups g b n) s y =
+      joined_behind (Err f) s y = record { told = (y.0, over-append limits.pieces anew (kept_slots v.later v.groups groups) ∙ rw y.1) }
+      joined_behind (Ok d) s y =
           let f : groups_of (slots_behind start v groups (drop count_size list)) ≡ groups_of anew ++ later = map-append boxes_of anew _ ∙ ap (λ (x : List (List Region)). groups_of anew ++ x) (kept_boxes later) in
           let l : length (together (groups_of anew ++ later)) ≡ length (together (groups_of anew)) + length (together later) = rw (together-append (groups_of anew) later) (length-append (together (groups_of anew)) (together later)) in
           let e = y.1 in
@@ -125,19 +122,16 @@ module _ {start : Region → List Region} {sheet list w : List ℕ} {t : PairLay
             );
           }
 
-      module _ {r : Drafted} {w' : List ℕ} (x : Gathered start (records_in list) v.place v.to (boxes - gap.boxes) back w r w') where
-        gap_behind : Behind (slots_behind start v groups (drop count_size list)) (box_count v.earlier groups) r w'
-        gap_behind = joined_behind r w' (rw rules_are at x.joined)
+      pub one_over : {f : Refusal} {w' : List ℕ} → Gathered start list v.place v.to (boxes - gap.boxes) back w (Err f) w' → Regrouped start sheet t list v w (Err f) sheet w'
+      one_over {w' = w'} x = settle_six keeps ready of_list of_sheet (joined_behind _ w' x.joined) x.beyond
 
-        many : Counted anew r
-        many = rw rules_are at x.count
-
-        -- the last step, with the groups on both sides of the gap kept
+      -- the last step, with the groups on both sides of the gap kept
+      module _ {d : Drafted} {w' : List ℕ} (x : Gathered start list v.place v.to (boxes - gap.boxes) back w (Ok d) w') where
         abbrev stay : Kept
         stay = record { before = v.earlier; size = gap.at; behind = v.groups - v.later }
 
-        pub one_ready : Settling sheet t list stay r w'
-        one_ready = settle_ready keeps ready of_list of_sheet refl found.0 refl r gap_behind many
+        pub one_ready : Settling sheet t list stay d w'
+        one_ready = settle_ready keeps ready of_list of_sheet refl found.0 refl (joined_behind _ w' x.joined) x.count
 
-        pub one_done : {q : Answer} {sheet' : List ℕ} → Settled sheet t list stay r w' q sheet' → Regrouped start sheet t list v w q sheet' w'
-        one_done = settle_done keeps ready of_list of_sheet refl found.0 refl r gap_behind many x.beyond
+        pub one_done : {q : Answer} {sheet' : List ℕ} → Settled sheet t list stay d w' q sheet' → Regrouped start sheet t list v w q sheet' w'
+        one_done = settle_done keeps ready of_list of_sheet refl found.0 refl (joined_behind _ w' x.joined) x.count x.beyond

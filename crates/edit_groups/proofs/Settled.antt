@@ -1,6 +1,6 @@
 -- What the last step of an edit of A asks for, and what each of its arms gives: 6, 7, or the pair sheet of the new lists and groups.
 -- Assumes nothing.
-use Rattle.std.specs.Prelude.{Ok, Err}
+use Rattle.std.specs.Prelude.{Result, Ok, Err}
 use mathlib.Core.Path.{◌≡◌, refl, ap, sym, ◌∙◌}
 use mathlib.Core.List.{List, [], ◌++◌, map}
 use mathlib.Core.Bool.{Bool, true, false}
@@ -20,7 +20,8 @@ use Rattle.policy.specs.Rules.{Rule, denies, sound}
 use Rattle.policy.specs.Refusals.{Answer, rules_refusal}
 use Rattle.policy.specs.Move.{Slot, alone, kept, boxes_of, together, any_over, work, room, Order, Pair, groups_of}
 use Rattle.policy.proofs.Refused.{list_refusal}
-use Rattle.policy.specs.declared.Refusal.TheVariants.{TooManyPieces, TooManyBoxes}
+use Rattle.policy.specs.declared.Refusal.{Refusal}
+use Rattle.policy.specs.declared.Refusal.TheVariants.{TooManyBoxes}
 use Rattle.policy.proofs.Numbers.{or_else_zero}
 use Rattle.policy.proofs.Edits.{kept_boxes, kept_over, over-append, together-append, rules_refusal-append, list_accepted}
 use Rattle.wire.specs.Numbers.{Byte}
@@ -41,9 +42,8 @@ use Rattle.sheet.proofs.Pairs.{ProperGroup, PairGood, denies_most}
 use Rattle.sheet.proofs.Accepted.{OrderAccepted, order_accepted}
 use Rattle.kept.specs.Steps.{run_size, GroupsHeld}
 use Rattle.kept.proofs.Runs.{groups_count_lem, held_front}
-use Rattle.draft.specs.Steps.{stretch, draft_size, Ready, DraftedGroups, sheet_of, Told, Counted}
+use Rattle.draft.specs.Steps.{stretch, draft_size, Ready, DraftedGroups, sheet_of, Told}
 use Rattle.draft.specs.declared.Drafted.{Drafted}
-use Rattle.draft.specs.declared.Drafted.TheVariants as D
 use Rattle.draft.proofs.Drafts.{rules_front, rules_sound_front}
 use Rattle.draft.proofs.Drawn.{Behind, drawn_behind}
 use Rattle.draft.proofs.Laid.{groups_laid}
@@ -53,6 +53,7 @@ use Rattle.edit_sheet.specs.Steps.{part_of, order_with, groups_at, with_gate, gr
 use Rattle.edit_sheet.specs.declared.Kept.{Kept}
 use Rattle.edit_groups.specs.Steps.{kept_slots, slots_behind, slots_around, AllAnew, layout_of, Settling, Settled, Regrouping, Regrouped, slotted}
 use Rattle.edit_groups.specs.declared.Around.{Around}
+use Rattle.edit_groups.proofs.Joins.{records_in}
 
 -- the bytes from one up to another, as those behind the first ones
 pub part_is : (from used : ℕ) (sheet : List ℕ) → from ≤ used → used ≤ length sheet → part_of from used sheet ≡ drop from (take used sheet)
@@ -60,10 +61,6 @@ part_is from used sheet h k =
     let e : used ≡ from + (used - from) = omega arith in
     sym (ap (λ (n : ℕ). drop from (take n sheet)) e ∙ ap (drop from) (take-add from (used - from) sheet)
     ∙ drop_at (take from sheet) (take (used - from) (drop from sheet)) from (length-take-le from sheet (omega arith)))
-
--- the rules of a list, behind its count
-abbrev pub records_in : List ℕ → List ℕ
-records_in list = take (length list - count_size) (drop count_size list)
 
 -- Where groups start: those worked out anew from sound rules are proper.
 abbrev pub Keeps : (Region → List Region) → Type 0
@@ -180,42 +177,42 @@ module _ {start : Region → List Region} (keeps : Keeps start) {sheet list w : 
       length-append anew (kept_slots v.later v.groups groups)
       ∙ ap (λ (n : ℕ). length anew + n) (length-map (drop v.later (groups_from v.groups groups)) kept ∙ length-drop v.later (groups_from v.groups groups) ∙ ap (λ (n : ℕ). n - v.later) (groups_count_lem v.groups groups))
 
-  module _ {kept : Kept} (before : kept.before ≡ v.earlier) (sized : kept.size ≡ run_size v.earlier groups) (back : kept.behind ≡ v.groups - v.later) {s : List ℕ} where
-    settle_six : {w' : List ℕ} → Behind behind (box_count v.earlier groups) D.TooManyPieces s → drop work_size w' ≡ drop work_size w
-        → Regrouped start sheet t list v w (Err TooManyPieces) sheet w'
-    unfolding slotted room work Told
-    settle_six {w'} x beyond =
-        let over : any_over limits.pieces l ≡ true = over-append limits.pieces (kept_slots 0 v.earlier groups) behind ∙ rw (kept_over limits.pieces (groups_from v.earlier groups)) x.told in
-        refuses pair_bytes pair_size _ sheet w w' TooManyPieces (rw over) beyond
+  -- number 6, which answers for a group that could not be worked out
+  pub settle_six : {f : Refusal} {s w' : List ℕ} → Behind behind (box_count v.earlier groups) (Err f) s → drop work_size w' ≡ drop work_size w → Regrouped start sheet t list v w (Err f) sheet w'
+  unfolding slotted room work Told
+  settle_six {f} {s} {w'} x beyond =
+      let over : any_over limits.pieces l ≡ true = over-append limits.pieces (kept_slots 0 v.earlier groups) behind ∙ rw (kept_over limits.pieces (groups_from v.earlier groups)) x.told.1 in
+      refuses pair_bytes pair_size _ sheet w w' f (rw (over, x.told.0)) beyond
 
-    module _ {g b end : ℕ} (x : Behind behind (box_count v.earlier groups) (D.Groups g b end) s) where
+  module _ {kept : Kept} (before : kept.before ≡ v.earlier) (sized : kept.size ≡ run_size v.earlier groups) (back : kept.behind ≡ v.groups - v.later) {s : List ℕ} where
+    module _ {d : Drafted} (x : Behind behind (box_count v.earlier groups) (Ok d) s) where
       light : any_over limits.pieces l ≡ false
       unfolding Told
       light = over-append limits.pieces (kept_slots 0 v.earlier groups) behind ∙ rw (kept_over limits.pieces (groups_from v.earlier groups)) x.told.0
 
-      boxes_are_lem : b ≡ length (together p.groups)
+      boxes_are_lem : d.boxes ≡ length (together p.groups)
       unfolding Told
       boxes_are_lem =
-          let e : length (together p.groups) ≡ box_count v.earlier groups + length (together (groups_of behind)) =
+          let y : length (together p.groups) ≡ box_count v.earlier groups + length (together (groups_of behind)) =
           ap (λ (g : List (List Region)). length (together g)) all_groups ∙ rw (together-append (groups_from v.earlier groups) (groups_of behind)) (length-append (together (groups_from v.earlier groups)) (together (groups_of behind))) in
-          let d = x.told.1 in
+          let e = x.told.1 in
           omega arith
 
-      behind_few : length (together (groups_of behind)) ≤ b
+      behind_few : length (together (groups_of behind)) ≤ d.boxes
       unfolding Told
-      behind_few = let d = x.told.1 in omega arith
+      behind_few = let e = x.told.1 in omega arith
 
       own_are : length o.own ≡ own
       own_are = rules_in-length own (drop count_size (drop (list_size gate) order))
 
-      settle_seven : {w' : List ℕ} → limits.total < b + own → drop work_size w' ≡ drop work_size w → Regrouped start sheet t list v w (Err TooManyBoxes) sheet w'
+      settle_seven : {w' : List ℕ} → limits.total < d.boxes + own → drop work_size w' ≡ drop work_size w → Regrouped start sheet t list v w (Err TooManyBoxes) sheet w'
       unfolding slotted room work
       settle_seven {w'} h beyond =
           let u : limits.total < length (together p.groups) + length o.own = omega (arith, boxes_are_lem, own_are) in
           refuses pair_bytes pair_size _ sheet w w' TooManyBoxes (rw (light, lt-ltb _ _ u)) beyond
 
       -- within the total, the groups before the place and those made are section C of the new pair
-      module _ (many : g ≡ length anew) (h : b + own ≤ limits.total) where
+      module _ (many : d.groups ≡ length anew) (h : d.boxes + own ≤ limits.total) where
         none : room limits o l ≡ 0
         unfolding room work
         none =
@@ -230,20 +227,20 @@ module _ {start : Region → List Region} (keeps : Keeps start) {sheet list w : 
           groups = record { boxes = proper_all; within = omega (arith, boxes_are_lem, own_are) };
         }
 
-        made : (end ≤ length s) × (take end s ≡ groups_bytes (groups_of behind))
+        made : (d.end ≤ length s) × (take d.end s ≡ groups_bytes (groups_of behind))
         unfolding Told
         made = x.told.2 (omega arith)
 
         abbrev n : ℕ
-        n = group_count kept g
+        n = group_count kept d.groups
 
         abbrev section : List ℕ
-        section = take kept.size (drop from sheet) ++ take end s
+        section = take kept.size (drop from sheet) ++ take d.end s
 
         content : section ≡ groups_bytes p.groups
         content = rw (sized, front_is, made.1) (sym (ap groups_bytes all_groups ∙ bytes-append group_bytes (groups_from v.earlier groups) (groups_of behind)))
 
-        rest_is : g + kept.behind ≡ length (groups_of behind)
+        rest_is : d.groups + kept.behind ≡ length (groups_of behind)
         rest_is = omega (arith, many, back, anew-length, length-map behind boxes_of)
 
         number : n ≡ length p.groups
@@ -253,12 +250,12 @@ module _ {start : Region → List Region} (keeps : Keeps start) {sheet list w : 
         unfolding pair_bytes order_bytes
         sheet_is = rw (content, number, a.gate_bytes, a.own_bytes, take-append-drop (list_size gate) order)
 
-        settle_put : (end ≤ length s) × GatePut sheet t list kept g (take end s)
+        settle_put : (d.end ≤ length s) × GatePut sheet t list kept d.groups (take d.end s)
         settle_put =
             let q = pair_short limits p (omega arith) (omega arith) good (omega arith) (omega arith) (omega arith) in
             let fl : length (take kept.size (drop from sheet)) ≡ kept.size = length-take-le kept.size (drop from sheet) (rw length-drop (omega (arith, sized, front_held.there, groups_long ready, ready.end, ready.within))) in
             let b : length (part_of middle third sheet) ≡ third - middle = length-take-le (third - middle) (drop middle sheet) (rw length-drop (omega (arith, ready.up_to, ready.begin, ready.within, ready.end))) in
-            let j : length (sheet_of order n section) ≡ length list + (third - middle) + count_size + kept.size + length (take end s) = rw (length-append, length-append, length-append, number_bytes-length, length-append, fl, b) (omega arith) in (
+            let j : length (sheet_of order n section) ≡ length list + (third - middle) + count_size + kept.size + length (take d.end s) = rw (length-append, length-append, length-append, number_bytes-length, length-append, fl, b) (omega arith) in (
               made.0,
               record {
                 apart = ready.apart;
@@ -273,7 +270,7 @@ module _ {start : Region → List Region} (keeps : Keeps start) {sheet list w : 
             )
 
         settle_accepted : {w' : List ℕ} (r : ℕ) (sheet' : List ℕ) → drop work_size w' ≡ drop work_size w
-            → r ≡ length (with_gate sheet t list kept.size n (take end s)) → sheet' ≡ filled pair_size sheet (with_gate sheet t list kept.size n (take end s))
+            → r ≡ length (with_gate sheet t list kept.size n (take d.end s)) → sheet' ≡ filled pair_size sheet (with_gate sheet t list kept.size n (take d.end s))
             → Regrouped start sheet t list v w (Ok r) sheet' w'
         unfolding slotted length_of written
         settle_accepted r sheet' beyond e f = record {
@@ -282,21 +279,17 @@ module _ {start : Region → List Region} (keeps : Keeps start) {sheet list w : 
           beyond = beyond;
         }
 
-    -- the last step, whatever was made
-    pub settle_ready : (r : Drafted) → Behind behind (box_count v.earlier groups) r s → Counted anew r → Settling sheet t list kept r s
-    unfolding Settling
-    settle_ready (D.Groups g b end) x many = λ h. settle_put x many h
-    settle_ready D.TooManyPieces x many = tt
+      -- the last step, whatever was made
+      module _ (many : d.groups ≡ length anew) where
+        pub settle_ready : Settling sheet t list kept d s
+        settle_ready = λ h. settle_put many h
 
-    pub settle_done : (r : Drafted) → Behind behind (box_count v.earlier groups) r s → Counted anew r → {q : Answer} {sheet' w' : List ℕ} → drop work_size w' ≡ drop work_size w
-        → Settled sheet t list kept r s q sheet' → Regrouped start sheet t list v w q sheet' w'
-    unfolding Settled
-    settle_done (D.Groups g b end) x many {q} {sheet'} {w'} beyond y = go (ltb limits.total (b + own)) refl
-      where
-        go : (over : Bool) → ltb limits.total (b + own) ≡ over → Regrouped start sheet t list v w q sheet' w'
-        go true e = let z = y.0 (ltb-true limits.total (b + own) e) in rw (z.0, z.1) (settle_seven x (ltb-true limits.total (b + own) e) beyond)
-        go false e = let z = y.1 (ltb-false limits.total (b + own) e) in rw z.0 (settle_accepted x many (ltb-false limits.total (b + own) e) _ sheet' beyond refl z.1)
-    settle_done D.TooManyPieces x many beyond y = rw (y.0, y.1) (settle_six x beyond)
+        pub settle_done : {q : Answer} {sheet' w' : List ℕ} → drop work_size w' ≡ drop work_size w → Settled sheet t list kept d s q sheet' → Regrouped start sheet t list v w q sheet' w'
+        settle_done {q} {sheet'} {w'} beyond y = go (ltb limits.total (d.boxes + own)) refl
+          where
+            go : (over : Bool) → ltb limits.total (d.boxes + own) ≡ over → Regrouped start sheet t list v w q sheet' w'
+            go true e = let z = y.0 (ltb-true limits.total (d.boxes + own) e) in rw (z.0, z.1) (settle_seven (ltb-true limits.total (d.boxes + own) e) beyond)
+            go false e = let z = y.1 (ltb-false limits.total (d.boxes + own) e) in rw z.0 (settle_accepted many (ltb-false limits.total (d.boxes + own) e) _ sheet' beyond refl z.1)
 
   -- the groups from the place on drafted, where none is kept behind it
   module _ {front : ℕ} (counted : front ≡ box_count v.earlier groups) where
@@ -314,27 +307,31 @@ module _ {start : Region → List Region} (keeps : Keeps start) {sheet list w : 
           work_room = ready.work_room;
         }
 
-    module _ (wide : AllAnew v) {draft draft' w' : List ℕ} {r : Drafted} (roomy : draft_size ≤ length draft) (same : length draft' ≡ length draft) (x : DraftedGroups start (records_in list) v.place v.to draft 0 front w r draft' w') where
-      draft_behind : Behind behind (box_count v.earlier groups) r draft'
-      draft_behind =
+    module _ (wide : AllAnew v) {draft draft' w' : List ℕ} (roomy : draft_size ≤ length draft) (same : length draft' ≡ length draft) where
+      behind_drafted : {r : Result Drafted Refusal} → DraftedGroups start (records_in list) v.place v.to draft 0 front w r draft' w' → Behind behind (box_count v.earlier groups) r draft'
+      behind_drafted {r} x =
           let m = groups_count_lem v.groups groups in
           let n : length (groups_from v.groups groups) ≤ v.later = omega arith in
           let b : behind ≡ anew = rw (drop_of_length-le (groups_from v.groups groups) n) (append-none anew) in
           let s = short in
           rw b (drawn_behind r (rw (part_from list count_size, counted) at x.drafting) same anew_proper (omega (arith, all-length, ap length b)) roomy)
 
-      many : Counted anew r
-      many = rw (part_from list count_size) at x.drafting.count
+      pub all_over : {f : Refusal} → DraftedGroups start (records_in list) v.place v.to draft 0 front w (Err f) draft' w' → Regrouped start sheet t list v w (Err f) sheet w'
+      all_over x = settle_six (behind_drafted x) x.beyond
 
       -- the last step, with the groups before the place kept
-      abbrev stay : Kept
-      stay = record { before = v.earlier; size = count_size * v.earlier + box_size * front; behind = 0 }
+      module _ {d : Drafted} (x : DraftedGroups start (records_in list) v.place v.to draft 0 front w (Ok d) draft' w') where
+        abbrev stay : Kept
+        stay = record { before = v.earlier; size = count_size * v.earlier + box_size * front; behind = 0 }
 
-      sized : stay.size ≡ run_size v.earlier groups
-      sized = ap (λ (n : ℕ). count_size * v.earlier + box_size * n) counted
+        many : d.groups ≡ length anew
+        many = rw (part_from list count_size) at x.drafting.count
 
-      pub all_ready : Settling sheet t list stay r draft'
-      all_ready = settle_ready refl sized (omega arith) r draft_behind many
+        sized : stay.size ≡ run_size v.earlier groups
+        sized = ap (λ (n : ℕ). count_size * v.earlier + box_size * n) counted
 
-      pub all_done : {q : Answer} {sheet' : List ℕ} → Settled sheet t list stay r draft' q sheet' → Regrouped start sheet t list v w q sheet' w'
-      all_done = settle_done refl sized (omega arith) r draft_behind many x.beyond
+        pub all_ready : Settling sheet t list stay d draft'
+        all_ready = settle_ready refl sized (omega arith) (behind_drafted x) many
+
+        pub all_done : {q : Answer} {sheet' : List ℕ} → Settled sheet t list stay d draft' q sheet' → Regrouped start sheet t list v w q sheet' w'
+        all_done = settle_done refl sized (omega arith) (behind_drafted x) many x.beyond

@@ -1,26 +1,25 @@
 -- Which groups an edit of A keeps, how those between them are worked out anew, and what its last step answers and leaves (01, Calls).
 -- Assumes nothing.
-use Rattle.std.specs.Prelude.{◌≡◌, List, [], ◌++◌, map, Bool, true, false, cond, ◌||◌, ℕ, ◌+◌, ◌*◌, ◌≤◌, ◌<◌, length, take, drop, Ok, Err}
+use Rattle.std.specs.Prelude.{◌≡◌, List, [], ◌++◌, map, Bool, true, false, cond, ◌||◌, ℕ, ◌+◌, ◌*◌, ◌≤◌, ◌<◌, length, take, drop, Result, Ok, Err}
 use Rattle.lists.specs.Lists.{every}
 use Rattle.policy.specs.Fields.{box_size, count_size, record_size, limits, work_size}
 use Rattle.policy.specs.Ranges.{Region}
 use Rattle.policy.specs.Rules.{Rule, is_allow, sound, denies, any_allow}
 use Rattle.policy.specs.Refusals.{Answer, Outcome, unless}
 use Rattle.policy.specs.Move.{Slot, kept, groups_of, room, Order, Pair}
-use Rattle.policy.specs.declared.Refusal.TheVariants as R
+use Rattle.policy.specs.declared.Refusal.{Refusal}
+use Rattle.policy.specs.declared.Refusal.TheVariants.{TooManyBoxes}
 use Rattle.wire.specs.Buffers.{filled}
 use Rattle.wire.specs.Lists.{list_size}
 use Rattle.wire.specs.Numbers.{number_bytes}
-use Rattle.wire.specs.Records.{rule_in, rules_in}
+use Rattle.wire.specs.Records.{rule_in}
 use Rattle.sheet.specs.Pairs.{group_size, groups_bytes, pair_bytes, pair_size}
 use Rattle.sheet.specs.Steps.{rules_of, order_at, OrderRead, groups_from, box_count}
 use Rattle.sheet.specs.declared.OrderLayout.{OrderLayout}
-use Rattle.sheet.specs.declared.OrderParts.TheVariants.{Parts}
 use Rattle.sheet.specs.declared.PairLayout.{PairLayout}
 use Rattle.kept.specs.Steps.{run_size, GroupsHeld}
 use Rattle.draft.specs.Steps.{stretch, Told, Begins, Counted}
 use Rattle.draft.specs.declared.Drafted.{Drafted}
-use Rattle.draft.specs.declared.Drafted.TheVariants.{Groups, TooManyPieces}
 use Rattle.promises.specs.Steps.{Writes}
 use Rattle.promises.specs.declared.Change.{Change}
 use Rattle.edit_list.specs.Steps.{taken_by, put_by}
@@ -73,10 +72,11 @@ pub record Placed (v : Around) : Type 0 where
   pub later : v.later ≤ v.groups
   pub fits : v.to + v.groups ≤ limits.gate + v.later
 
--- Whether no rule from the place up to `to` denies, where there is one at most: then no group comes of it, wherever groups start.
+-- Whether no rule of a list from the place up to `to` denies, where there is one at most: then no group comes of it, wherever groups
+-- start.
 unfoldable pub NoneDenies : List ℕ → ℕ → ℕ → Bool → Type 0
-NoneDenies rules place to true = (start : Region → List Region) → stretch start place to rules ≡ []
-NoneDenies rules place to false = (place < to) × (is_allow (rule_in (drop (record_size * place) rules)) ≡ false)
+NoneDenies list place to true = (start : Region → List Region) → stretch start place to (drop count_size list) ≡ []
+NoneDenies list place to false = (place < to) × (is_allow (rule_in (drop (record_size * place) (drop count_size list))) ≡ false)
 
 -- A group's n boxes at the front of the work buffer, and room for its count and for the bytes behind it.
 pub record JoinReady (work : List ℕ) (n : ℕ) (back : List ℕ) : Type 0 where
@@ -90,11 +90,11 @@ pub record JoinedIn (work : List ℕ) (n : ℕ) (back : List ℕ) (r : ℕ) (wor
   pub bytes : take r work' ≡ (number_bytes count_size n ++ take (box_size * n) work) ++ back
   pub beyond : drop work_size work' ≡ drop work_size work
 
--- What joining the group of the rule at a place and the bytes of kept groups asks for: sound records, and room for all of them,
--- since the bytes are those of no more than `boxes` boxes.
-pub record Gathering (rules : List ℕ) (place to boxes : ℕ) (back work : List ℕ) : Type 0 where
-  pub records : record_size * to ≤ length rules
-  pub rules_sound : every sound (rules_in to rules) ≡ true
+-- What joining the group of the rule at a place of a list and the bytes of kept groups asks for: sound records, and room for all of
+-- them, since the bytes are those of no more than `boxes` boxes.
+pub record Gathering (list : List ℕ) (place to boxes : ℕ) (back work : List ℕ) : Type 0 where
+  pub records : list_size to ≤ length list
+  pub rules_sound : every sound (rules_of to list) ≡ true
   pub up_to : place ≤ to
   pub one : to ≤ place + 1
   pub few : boxes ≤ limits.total
@@ -102,22 +102,24 @@ pub record Gathering (rules : List ℕ) (place to boxes : ℕ) (back work : List
   pub work_room : work_size ≤ length work
 
 -- What it answers and leaves: while the boxes are within the total, the bytes of the group, and behind them those of the kept ones.
-pub record Gathered (start : Region → List Region) (rules : List ℕ) (place to boxes : ℕ) (back work : List ℕ) (r : Drafted) (work' : List ℕ) : Type 0 where
-  pub joined : Told limits (stretch start place to rules) boxes (Begins work' (groups_bytes (groups_of (stretch start place to rules)) ++ back)) r
-  pub count : Counted (stretch start place to rules) r
+pub record Gathered (start : Region → List Region) (list : List ℕ) (place to boxes : ℕ) (back work : List ℕ) (r : Result Drafted Refusal) (work' : List ℕ) : Type 0 where
+  pub joined :
+      Told limits (stretch start place to (drop count_size list)) boxes
+      (Begins work' (groups_bytes (groups_of (stretch start place to (drop count_size list))) ++ back)) r
+  pub count : Counted (stretch start place to (drop count_size list)) r
   pub beyond : drop work_size work' ≡ drop work_size work
 
 -- What the last step asks for: where there is room for so many boxes, the groups made are there, and the sheet can be written.
-unfoldable pub Settling : List ℕ → PairLayout → List ℕ → Kept → Drafted → List ℕ → Type 0
-Settling sheet l list k (Groups g b n) made = b + l.order.own ≤ limits.total → (n ≤ length made) × GatePut sheet l list k g (take n made)
-Settling sheet l list k TooManyPieces made = Unit {0}
+abbrev pub Settling : List ℕ → PairLayout → List ℕ → Kept → Drafted → List ℕ → Type 0
+Settling sheet l list k d made = d.boxes + l.order.own ≤ limits.total → (d.end ≤ length made) × GatePut sheet l list k d.groups (take d.end made)
 
--- What it answers and leaves: 6, 7, or the pair sheet of the new A.
-unfoldable pub Settled : List ℕ → PairLayout → List ℕ → Kept → Drafted → List ℕ → Answer → List ℕ → Type 0
-Settled sheet l list k (Groups g b n) made r sheet' =
-    (limits.total < b + l.order.own → (r ≡ Err R.TooManyBoxes) × (sheet' ≡ sheet))
-    × (b + l.order.own ≤ limits.total → (r ≡ Ok (length (with_gate sheet l list k.size (group_count k g) (take n made)))) × (sheet' ≡ filled pair_size sheet (with_gate sheet l list k.size (group_count k g) (take n made))))
-Settled sheet l list k TooManyPieces made r sheet' = (r ≡ Err R.TooManyPieces) × (sheet' ≡ sheet)
+-- What it answers and leaves: 7, or the pair sheet of the new A.
+abbrev pub Settled : List ℕ → PairLayout → List ℕ → Kept → Drafted → List ℕ → Answer → List ℕ → Type 0
+Settled sheet l list k d made r sheet' =
+    (limits.total < d.boxes + l.order.own → (r ≡ Err TooManyBoxes) × (sheet' ≡ sheet))
+    × (d.boxes + l.order.own ≤ limits.total
+    → (r ≡ Ok (length (with_gate sheet l list k.size (group_count k d.groups) (take d.end made))))
+    × (sheet' ≡ filled pair_size sheet (with_gate sheet l list k.size (group_count k d.groups) (take d.end made))))
 
 -- Where all groups from the place on are worked out anew.
 abbrev pub AllAnew : Around → Type 0
@@ -131,7 +133,7 @@ layout_of gate own = record { gate = gate; own = own; middle = list_size gate; e
 -- no group is kept behind the place where more than one rule is to be worked out, and what stands is one record at most from where
 -- it goes.
 pub record Regrouping (start : Region → List Region) (sheet : List ℕ) (l : PairLayout) (list : List ℕ) (v : Around) (work : List ℕ) : Type 0 where
-  pub reads : OrderRead (order_with list l sheet) (Parts (layout_of v.count l.order.own))
+  pub reads : OrderRead (order_with list l sheet) (Ok (layout_of v.count l.order.own))
   pub long : list_size v.count ≤ length list
   pub front : rules_of v.count (order_with list l sheet) ≡ rules_of v.count list
   pub held : GroupsHeld (groups_at l sheet) v.groups

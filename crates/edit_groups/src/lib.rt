@@ -1,10 +1,10 @@
 // The groups of an edited A: which of them are kept and which are worked out anew, and the last step of the edit. With one rule at
 // most to work out, its group and those kept behind it are joined in the work buffer; with more of them, they are drafted as in a
 // move.
+// A sheet and its layout are two parameters, since the layout tells what the sheet was: a type of both would be wrong once it is written.
 #![tactic(auto)]
 
 ghost use Rattle.std.specs.Prelude.{◌≡◌, ◌+◌, ◌*◌, ◌≤◌, length, drop};
-ghost use Rattle.policy.specs.Fields.{record_size};
 ghost use Rattle.policy.specs.Rules.{any_allow};
 ghost use Rattle.policy.specs.Move.{alone};
 ghost use Rattle.wire.specs.Lists.{list_size};
@@ -13,9 +13,8 @@ ghost use Rattle.edit_sheet.specs.Steps.{groups_at};
 ghost use Rattle.edit_groups.specs.Steps.{around_of, AroundReady, NoneDenies, JoinReady, JoinedIn, Gathering, Gathered, Settling, Settled, Regrouping, Regrouped, AllAnew};
 
 use draft::{DRAFT_BYTES, Drafted, draft_groups};
-use edit_list::{put_by, taken_by};
+use edit_list::taken_and_put;
 use edit_sheet::Kept;
-use groups::Worked;
 use policy::{Answer, BOX_BYTES, COUNT_BYTES, RECORD_BYTES, Refusal, TOTAL_MOST};
 use promises::Request;
 use sheet::PairLayout;
@@ -37,10 +36,7 @@ fn any_allow(list: &[u8], place: usize, n: usize) -> bool
     requires { (n ≤ 1) × (list_size (place + n) ≤ length list.now) }
     ensures { result ≡ any_allow (drop place (rules_of (place + n) list.now)) }
 {
-    if n == 0 {
-        return false;
-    }
-    wire::rule_at(list, COUNT_BYTES + RECORD_BYTES * place).is_allow()
+    n != 0 && wire::rule_at(list, COUNT_BYTES + RECORD_BYTES * place).is_allow()
 }
 
 // Where the groups of the new A, of so many rules, come from: those behind the place too are worked out anew where an allow is taken
@@ -57,43 +53,30 @@ pub fn find_around(
 {
     let place = request.place;
     let groups = old.groups;
-    let change = request.change;
-    let taken = taken_by(change);
-    let put = put_by(change);
+    let (taken, put) = taken_and_put(request.change);
     let earlier = sheet::count_denies(pair, place);
-    let wide = Around {
-        earlier,
-        later: groups,
-        groups,
-        place,
-        to: count,
-        count,
+    let touched = any_allow(pair, place, taken) || any_allow(list, place, put);
+    let (later, to) = if touched {
+        (groups, count)
+    } else {
+        (earlier + taken, place + put)
     };
-    if any_allow(pair, place, taken) {
-        return wide;
-    }
-    if any_allow(list, place, put) {
-        return wide;
-    }
     Around {
         earlier,
-        later: earlier + taken,
+        later,
         groups,
         place,
-        to: place + put,
+        to,
         count,
     }
 }
 
-// Whether no rule from the place up to `to` denies, where there is one at most.
-fn none_denies(rules: &[u8], place: usize, to: usize) -> bool
-    requires { (place ≤ to) × (to ≤ place + 1) × (record_size * to ≤ length rules.now) }
-    ensures { NoneDenies rules.now place to result }
+// Whether no rule of a list from the place up to `to` denies, where there is one at most.
+fn none_denies(list: &[u8], place: usize, to: usize) -> bool
+    requires { (place ≤ to) × (to ≤ place + 1) × (list_size to ≤ length list.now) }
+    ensures { NoneDenies list.now place to result }
 {
-    if to == place {
-        return true;
-    }
-    wire::rule_at(rules, RECORD_BYTES * place).is_allow()
+    to == place || any_allow(list, place, to - place)
 }
 
 // The n boxes at the front of the work buffer made a group by the count before them, and these bytes put behind it; where they end.
@@ -110,46 +93,38 @@ fn join_groups(work: &mut [u8], n: usize, back: &[u8]) -> usize
 // At the front of the work buffer the group of what stands at the place, if that is a deny, and these bytes of kept groups behind it;
 // how many boxes there then are with those of all that is kept, and where the bytes end; or number 6.
 fn gather(
-    rules: &[u8],
-    place: usize,
-    to: usize,
+    list: &[u8],
+    around: Around,
     boxes: usize,
     back: &[u8],
     work: &mut [u8],
-) -> Drafted
-    requires { Gathering rules.now place to boxes back.now work.old }
-    ensures { Gathered alone rules.now place to boxes back.now work.old result work.new }
+) -> Result<Drafted, Refusal>
+    requires { Gathering list.now around.place around.to boxes back.now work.old }
+    ensures { Gathered alone list.now around.place around.to boxes back.now work.old result work.new }
 {
-    if none_denies(rules, place, to) {
+    if none_denies(list, around.place, around.to) {
         let end = wire::put_bytes(work, 0, back);
-        return Drafted::Groups {
+        return Ok(Drafted {
             groups: 0,
             boxes,
             end,
-        };
+        });
     }
-    match groups::work_out(rules, place, work) {
-        Worked::TooMany => Drafted::TooManyPieces,
-        Worked::Boxes(n) => {
-            let sum = boxes + n;
-            if TOTAL_MOST < sum {
-                return Drafted::Groups {
-                    groups: 1,
-                    boxes: sum,
-                    end: 0,
-                };
-            }
-            let end = join_groups(work, n, back);
-            Drafted::Groups {
-                groups: 1,
-                boxes: sum,
-                end,
-            }
-        }
-    }
+    let n = groups::work_out(&list[COUNT_BYTES..], around.place, work)?;
+    let sum = boxes + n;
+    let end = if sum <= TOTAL_MOST {
+        join_groups(work, n, back)
+    } else {
+        0
+    };
+    Ok(Drafted {
+        groups: 1,
+        boxes: sum,
+        end,
+    })
 }
 
-// The last step, once the new groups and those kept behind them are made (6): the room for all boxes is tested (7), and the pair sheet
+// The last step, once the new groups and those kept behind them are made: the room for all boxes is tested (7), and the pair sheet
 // written.
 fn settle(
     sheet: &mut [u8],
@@ -162,15 +137,11 @@ fn settle(
     requires { Settling sheet.old old list.now kept drafted made.now }
     ensures { Settled sheet.old old list.now kept drafted made.now result sheet.new }
 {
-    match drafted {
-        Drafted::TooManyPieces => Answer::Refused(Refusal::TooManyPieces),
-        Drafted::Groups { groups, boxes, end } => {
-            if !policy::has_room(boxes, old.order.own) {
-                return Answer::Refused(Refusal::TooManyBoxes);
-            }
-            Answer::Length(edit_sheet::put_gate(sheet, old, list, kept, groups, &made[..end]))
-        }
+    if !policy::has_room(drafted.boxes, old.order.own) {
+        return Err(Refusal::TooManyBoxes);
     }
+    let behind = &made[..drafted.end];
+    Ok(edit_sheet::put_gate(sheet, old, list, kept, drafted.groups, behind))
 }
 
 // The groups of the new A where there is one rule at most to work out.
@@ -190,14 +161,7 @@ fn regroup_one(
     let gap = kept::find_gap(&sheet[from..used], around.earlier, gone);
     let next = from + gap.next;
     let left = old.boxes - gap.boxes;
-    let drafted = gather(
-        &list[COUNT_BYTES..],
-        around.place,
-        around.to,
-        left,
-        &sheet[next..used],
-        work,
-    );
+    let drafted = gather(list, around, left, &sheet[next..used], work)?;
     let stay = Kept {
         before: around.earlier,
         size: gap.at,
@@ -207,7 +171,7 @@ fn regroup_one(
 }
 
 // The groups of the new A where all rules from the place on are to be worked out; those before it have so many boxes. The draft is
-// local: what is lent is written only once the edit is accepted.
+// local, since what is lent is written only once the edit is accepted, and an array with its end beside it, since there is no heap.
 fn regroup_all(
     sheet: &mut [u8],
     old: PairLayout,
@@ -227,7 +191,7 @@ fn regroup_all(
         front,
         &mut draft,
         work,
-    );
+    )?;
     let stay = Kept {
         before: around.earlier,
         size: COUNT_BYTES * around.earlier + BOX_BYTES * front,

@@ -1,14 +1,14 @@
 -- What each arm of changing a list gives, and that the bytes are those of the changed list. Assumes nothing.
 use Rattle.std.specs.Prelude.{Ok, Err}
-use mathlib.Core.Path.{◌≡◌, refl, sym, ◌∙◌}
+use mathlib.Core.Path.{◌≡◌, refl, ap, sym, ◌∙◌}
 use mathlib.Core.List.{List, [], ◌++◌}
-use mathlib.Core.Bool.{Bool, true, false, cond}
+use mathlib.Core.Bool.{Bool, true, false, cond, not, ◌||◌}
 use Prim.Native.Nat.{ℕ, ◌+◌, ◌*◌, ◌-◌, ◌≤◌, ◌<◌}
 use native.Mathlib.Omega.{arith}
 use lib.Dec.{leb, eqb}
 use lib.ListN.{length, take, drop, length-append, length-take, length-drop}
 use lib.Seq.{sets, sets-eq, take_at, length-take-le}
-use borrow.Author.Tests.{le-leb, lt-leb, leb-true, eqb-true}
+use borrow.Author.Tests.{le-leb, lt-leb, leb-true, eqb-true, not-true, not-false}
 use Rattle.lists.specs.Lists.{Each}
 use Rattle.lists.proofs.Lists.{append-none}
 use Rattle.policy.specs.Fields.{count_size, record_size, limits}
@@ -62,27 +62,38 @@ put_long Replace s w = omega (arith, eqb-true (length s) record_size w)
 pub changed-length : (i : ℕ) (k : Kind) (l : List Rule) → i + out k ≤ length l → length (changed i k l) ≡ length l - out k + length (put k)
 changed-length i k l h = rw (length-append, length-append, length-take, length-drop, length-drop) (omega arith)
 
-module _ (s : List ℕ) (count place : ℕ) (change : Change) (new out₀ : List ℕ) {taken : ℕ} (taking : taken ≡ taken_by change) (some : taken ≤ count) where
+-- what the code asks of the record's length
+whole_is : (c : Change) (s : List ℕ) → (eqb (put_by c) 0 || eqb (length s) record_size) ≡ whole_record c s
+whole_is Insert s = refl
+whole_is Delete s = refl
+whole_is Replace s = refl
+
+module _ (s : List ℕ) (count place : ℕ) (change : Change) (new out₀ : List ℕ) {taken put : ℕ}
+    (by : (taken ≡ taken_by change) × (put ≡ put_by change) × (taken ≤ 1) × (put ≤ 1)) (some : 1 ≤ count) where
   pub changed_no_place : count - taken < place → ListChanged (changed_bytes s count place change new) out₀ (Err NoPlace) out₀
   unfolding changed_bytes overlaid length_of
   changed_no_place h =
       let f = lt-leb (place + taken_by change) count (omega arith) in
       record { answer = rw f; result = rw f }
 
-  module _ (found : place ≤ count - taken) where
+  module _ (found : place ≤ count - taken) {w : Bool} (tested : w ≡ (eqb put 0 || eqb (length new) record_size)) where
     there : leb (place + taken_by change) count ≡ true
     there = le-leb (place + taken_by change) count (omega arith)
 
-    pub changed_short : whole_record change new ≡ false → ListChanged (changed_bytes s count place change new) out₀ (Err LengthWrong) out₀
-    unfolding changed_bytes overlaid length_of
-    changed_short h = record { answer = rw (there, h); result = rw (there, h) }
+    tested_is : w ≡ whole_record change new
+    tested_is = tested ∙ ap (λ (n : ℕ). eqb n 0 || eqb (length new) record_size) by.1 ∙ whole_is change new
 
-    pub changed_done : whole_record change new ≡ true → {put r : ℕ} {out₁ : List ℕ} → put ≡ put_by change
-        → r ≡ length (spliced s (count - taken + put) place taken (take (record_size * put) new))
-        → out₁ ≡ sets out₀ 0 (spliced s (count - taken + put) place taken (take (record_size * put) new))
+    pub changed_short : not w ≡ true → ListChanged (changed_bytes s count place change new) out₀ (Err LengthWrong) out₀
+    unfolding changed_bytes overlaid length_of
+    changed_short h = let f = sym tested_is ∙ not-true w h in record { answer = rw (there, f); result = rw (there, f) }
+
+    pub changed_done : not w ≡ false → {r : ℕ} {out₁ : List ℕ}
+        → (r ≡ length (spliced s (count - taken + put) place taken (take (record_size * put) new))) × (out₁ ≡ sets out₀ 0 (spliced s (count - taken + put) place taken (take (record_size * put) new)))
         → ListChanged (changed_bytes s count place change new) out₀ (Ok r) out₁
     unfolding changed_bytes overlaid length_of
-    changed_done h ep er eo = record { answer = rw (there, h, er, ep, taking); result = rw (there, h, eo, ep, taking) }
+    changed_done h e =
+        let f = sym tested_is ∙ not-false w h in
+        record { answer = rw (there, f, e.0, by.1, by.0); result = rw (there, f, e.1, by.1, by.0) }
 
 -- A refused change leaves the buffer alone, and whatever stands behind the two tests is refused with its number.
 pub change_refused : {A : Type 0} (x : Outcome A) (s : List ℕ) (count place : ℕ) (change : Change) (new : List ℕ) {out out' : List ℕ} (f : Refusal)

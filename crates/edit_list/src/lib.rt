@@ -2,46 +2,31 @@
 // whole (3).
 #![tactic(auto)]
 
-ghost use Rattle.std.specs.Prelude.{◌≡◌, ◌+◌, ◌*◌, ◌≤◌, ◌<◌, length};
+ghost use Rattle.std.specs.Prelude.{◌≡◌, ◌||◌, eqb, ◌+◌, ◌*◌, ◌≤◌, ◌<◌, length};
 ghost use Rattle.std.proofs.lemmas.List.Edits.{sets};
 ghost use Rattle.policy.specs.Fields.{count_size, record_size};
 ghost use Rattle.wire.specs.Lists.{list_size};
-ghost use Rattle.promises.specs.Edits.{whole_record};
 ghost use Rattle.edit_list.specs.Steps.{taken_by, put_by, most_in, spliced, changed_bytes, ListChanged};
 
 use policy::{Answer, COUNT_BYTES, RECORD_BYTES, Refusal};
 use promises::{Change, Request};
 
 // How many rules a change takes out at its place, and how many it puts in.
-pub fn taken_by(change: Change) -> usize
-    ensures { (result ≡ taken_by change) × (result ≤ 1) }
+pub fn taken_and_put(change: Change) -> (usize, usize)
+    ensures { (result.0 ≡ taken_by change) × (result.1 ≡ put_by change) × (result.0 ≤ 1) × (result.1 ≤ 1) }
 {
     match change {
-        Change::Insert => 0,
-        Change::Delete => 1,
-        Change::Replace => 1,
-    }
-}
-
-pub fn put_by(change: Change) -> usize
-    ensures { (result ≡ put_by change) × (result ≤ 1) }
-{
-    match change {
-        Change::Insert => 1,
-        Change::Delete => 0,
-        Change::Replace => 1,
+        Change::Insert => (0, 1),
+        Change::Delete => (1, 0),
+        Change::Replace => (1, 1),
     }
 }
 
 // The record, where one is put in, has a record's length.
-fn is_whole(change: Change, new: &[u8]) -> bool
-    ensures { result ≡ whole_record change new.now }
+fn is_whole(put: usize, new: &[u8]) -> bool
+    ensures { result ≡ (eqb put 0 || eqb (length new.now) record_size) }
 {
-    match change {
-        Change::Insert => new.len() == RECORD_BYTES,
-        Change::Delete => true,
-        Change::Replace => new.len() == RECORD_BYTES,
-    }
+    put == 0 || new.len() == RECORD_BYTES
 }
 
 // The bytes of a list with so many records taken out at a place, and others put in there, at the front of the buffer; their length.
@@ -62,17 +47,15 @@ pub fn change_list(s: &[u8], count: usize, request: Request, new: &[u8], out: &m
     requires { (1 ≤ count) × (count ≤ most_in request.which) × (list_size count ≤ length s.now) × (length s.now + record_size ≤ length out.old) }
     ensures { ListChanged (changed_bytes s.now count request.place request.change new.now) out.old result out.new }
 {
-    let change = request.change;
     let place = request.place;
-    let taken = taken_by(change);
+    let (taken, put) = taken_and_put(request.change);
     let left = count - taken;
     if left < place {
-        return Answer::Refused(Refusal::NoPlace);
+        return Err(Refusal::NoPlace);
     }
-    if !is_whole(change, new) {
-        return Answer::Refused(Refusal::LengthWrong);
+    if !is_whole(put, new) {
+        return Err(Refusal::LengthWrong);
     }
-    let put = put_by(change);
     let size = RECORD_BYTES * put;
-    Answer::Length(splice(out, s, left + put, place, taken, &new[..size]))
+    Ok(splice(out, s, left + put, place, taken, &new[..size]))
 }

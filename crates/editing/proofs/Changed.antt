@@ -18,6 +18,7 @@ use Rattle.wire.proofs.Records.{rules_in-length}
 use Rattle.wire.proofs.Lists.{list_bytes-length}
 use Rattle.sheet.specs.Orders.{list_in}
 use Rattle.sheet.specs.Steps.{rules_of}
+use Rattle.sheet.specs.declared.Section.{Section}
 use Rattle.sheet.proofs.Orders.{ListFits, list_back}
 use Rattle.sheet.proofs.Accepted.{ListAccepted}
 use Rattle.promises.specs.Edits.{kind_of}
@@ -54,11 +55,11 @@ pub record Renewed (l l' : List Rule) (n most place : ℕ) (change : Change) (t 
   pub less : n ≤ n' + 1
   pub put : place + put_by change ≤ n'
 
-pub list_renewed : {l : List Rule} {n most place : ℕ} {change : Change} {new out out' : List ℕ} {end n' next : ℕ} → length l ≡ n → ChangedList l n most place change new out out' end
-    → ListAccepted most (take end out') n' next → Renewed l (changed place (kind_of change new) l) n most place change (take end out') n'
-list_renewed {l} {n} {most} {place} {change} {new} {out} {out'} {end} {n'} counted c b =
+pub list_renewed : {l : List Rule} {n most place : ℕ} {change : Change} {new out out' : List ℕ} {end : ℕ} {d : Section} → length l ≡ n → ChangedList l n most place change new out out' end
+    → ListAccepted most (take end out') d → Renewed l (changed place (kind_of change new) l) n most place change (take end out') d.count
+list_renewed {l} {n} {most} {place} {change} {new} {out} {out'} {end} {d} counted c b =
     let u = unless_accepted (list_refusal most (changed place (kind_of change new) l)) (sym c.reads ∙ b.reads) in
-    let e : length (changed place (kind_of change new) l) ≡ n' = ap length u.1 ∙ rules_in-length n' (drop count_size (take end out')) in
+    let e : length (changed place (kind_of change new) l) ≡ d.count = ap length u.1 ∙ rules_in-length d.count (drop count_size (take end out')) in
     let h = c.done.found in
     let t = taken_is change new in
     let p = put_is change new in

@@ -3,5 +3,4 @@ pub mod Revised
 pub mod Parts
 pub mod Changed
 pub mod Made
-pub mod Gate
-pub mod Own
+pub mod Edited

@@ -13,10 +13,9 @@ use Rattle.policy.specs.Rules.{Rule}
 use Rattle.wire.specs.Numbers.{Byte}
 use Rattle.wire.specs.Lists.{list_bytes}
 use Rattle.wire.proofs.Numbers.{bytes_take}
-use Rattle.sheet.specs.Steps.{rules_of, ListRead}
+use Rattle.sheet.specs.Steps.{rules_of, ListRead, PairRead}
 use Rattle.sheet.specs.declared.PairLayout.{PairLayout}
 use Rattle.sheet.specs.declared.Section.{Section}
-use Rattle.sheet.specs.declared.Section.TheVariants.{Rules}
 use Rattle.sheet.proofs.Accepted.{PairAccepted, ListAccepted, pair_accepted, list_accepted}
 use Rattle.sheet.proofs.Parts.{bytes_of}
 use Rattle.promises.specs.declared.Change.{Change}
@@ -31,24 +30,27 @@ pub record Made (sheet : List ℕ) (l : PairLayout) (list : List Rule) (n place 
   pub whole : Each Byte new
   pub changed : ListChanged (changed_bytes (list_bytes list) n place change new) out r made
 
+-- A sheet that reads well at the front of its buffer.
+pub pair_there : (sheet : List ℕ) (used : ℕ) {l : PairLayout} → PairRead (take used sheet) (Ok l) → ((i : ℕ) → Fits w8 (get_or sheet i 0)) → PairAccepted (take used sheet) l
+pair_there sheet used {l} x bytes = pair_accepted x (bytes_take used sheet (bytes_of sheet bytes)) l refl
+
 module _ {sheet : List ℕ} {l : PairLayout} {work : List ℕ} (ready : Revising sheet l work) (bytes : (i : ℕ) → Fits w8 (get_or sheet i 0)) where
   pub sheet_read : PairAccepted (take l.end sheet) l
-  sheet_read = pair_accepted ready.reads (bytes_take l.end sheet (bytes_of sheet bytes)) l refl
+  sheet_read = pair_there sheet l.end ready.reads bytes
 
-  module _ {place : ℕ} {change : Change} {new : List ℕ} (record-bytes : (i : ℕ) → Fits w8 (get_or new i 0)) {out made : List ℕ} {r a : Answer} where
-    made_of : {t : List ℕ} {list : List Rule} {n : ℕ} → t ≡ list_bytes list → ListChanged (changed_bytes t n place change new) out r made → r ≡ a
-        → Made sheet l list n place change new out a made
-    made_of u x e = record { read = sheet_read; inside = ready.inside; whole = bytes_of new record-bytes; changed = rw (e, u) at x }
+  module _ {place : ℕ} {change : Change} {new : List ℕ} (record-bytes : (i : ℕ) → Fits w8 (get_or new i 0)) {out made : List ℕ} {r : Answer} where
+    made_of : {t : List ℕ} {list : List Rule} {n : ℕ} → t ≡ list_bytes list → ListChanged (changed_bytes t n place change new) out r made → Made sheet l list n place change new out r made
+    made_of u x = record { read = sheet_read; inside = ready.inside; whole = bytes_of new record-bytes; changed = rw u at x }
 
-    pub gate_made : ListChanged (changed_bytes (take l.order.middle sheet) l.order.gate place change new) out r made → r ≡ a
-        → Made sheet l (rules_of l.order.gate (take l.end sheet)) l.order.gate place change new out a made
+    pub gate_made : ListChanged (changed_bytes (take l.order.middle sheet) l.order.gate place change new) out r made
+        → Made sheet l (rules_of l.order.gate (take l.end sheet)) l.order.gate place change new out r made
     gate_made = made_of (gate_bytes_lem sheet sheet_read ready.inside)
 
-    pub own_made : ListChanged (changed_bytes (take (l.order.end - l.order.middle) (drop l.order.middle sheet)) l.order.own place change new) out r made → r ≡ a
-        → Made sheet l (rules_of l.order.own (drop l.order.middle (take l.end sheet))) l.order.own place change new out a made
+    pub own_made : ListChanged (changed_bytes (take (l.order.end - l.order.middle) (drop l.order.middle sheet)) l.order.own place change new) out r made
+        → Made sheet l (rules_of l.order.own (drop l.order.middle (take l.end sheet))) l.order.own place change new out r made
     own_made = made_of (own_bytes_lem sheet sheet_read ready.inside)
 
-pub made_accepted : {sheet new out made : List ℕ} {l : PairLayout} {list : List Rule} {n place end most count next : ℕ} {change : Change} {r : Section}
-    → Made sheet l list n place change new out (Ok end) made → ((i : ℕ) → Fits w8 (get_or made i 0)) → ListRead most (take end made) r → r ≡ Rules count next
-    → ListAccepted most (take end made) count next
-made_accepted {made = made} {end = end} m bytes x e = list_accepted x (bytes_take end made (bytes_of made bytes)) _ _ e
+pub made_accepted : {sheet new out made : List ℕ} {l : PairLayout} {list : List Rule} {n place end most : ℕ} {change : Change} {d : Section}
+    → Made sheet l list n place change new out (Ok end) made → ((i : ℕ) → Fits w8 (get_or made i 0)) → ListRead most (take end made) (Ok d)
+    → ListAccepted most (take end made) d
+made_accepted {made = made} {end = end} m bytes x = list_accepted x (bytes_take end made (bytes_of made bytes)) _ refl

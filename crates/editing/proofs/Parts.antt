@@ -14,7 +14,7 @@ use Rattle.wire.proofs.Records.{RuleFits, rules_back}
 use Rattle.wire.proofs.Counts.{count_behind}
 use Rattle.wire.proofs.Lists.{list_bytes-length}
 use Rattle.wire.specs.Numbers.{number_bytes}
-use Rattle.policy.specs.Fields.{count_size}
+use Rattle.policy.specs.Fields.{count_size, limits}
 use Rattle.sheet.specs.Orders.{order_bytes}
 use Rattle.sheet.specs.Steps.{rules_of, pair_at}
 use Rattle.sheet.specs.declared.PairLayout.{PairLayout}
@@ -73,3 +73,17 @@ module _ (sheet : List ℕ) {l : PairLayout} (a : PairAccepted (take l.end sheet
     a.laid.begin,
     omega (arith, a.laid.groups_end),
   )
+
+  pub gate_there : (1 ≤ l.order.gate) × (l.order.gate ≤ limits.gate) × (middle ≤ length sheet) × (list_size l.order.gate ≤ l.end)
+  gate_there =
+      let t = parts_there in
+      (known.gate_some, a.laid.lists.gate_limit, omega (arith, t.0, t.1), omega (arith, t.0, t.1, a.laid.lists.gate_end))
+
+  pub gate_bytes-length : length (take middle sheet) ≡ list_size l.order.gate
+  gate_bytes-length = ap length gate_bytes_lem ∙ gate_long ∙ a.laid.lists.gate_end
+
+  pub own_there : (1 ≤ l.order.own) × (l.order.own ≤ limits.own) × (middle ≤ third) × (third ≤ length sheet)
+  own_there = (known.own_some, a.laid.lists.own_limit, parts_there.0, omega (arith, parts_there.1))
+
+  pub own_bytes-length : length (take (third - middle) (drop middle sheet)) ≡ list_size l.order.own
+  own_bytes-length = ap length own_bytes_lem ∙ own_long

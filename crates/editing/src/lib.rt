@@ -1,6 +1,7 @@
 // Edit: a pair sheet changed at one place of A or of B. Sizes (1), the sheet read, the list and its place (9), the record, the new
 // list made in another buffer and read there, its groups and the room for them, the sheet written, the work buffer cleared. The
 // sheet is not touched before the edit is known to be accepted.
+// A sheet and its layout are two parameters, since the layout tells what the sheet was: a type of both would be wrong once it is written.
 #![tactic(auto)]
 
 ghost use Rattle.std.specs.Prelude.{◌≡◌, ◌+◌, ◌≤◌, length};
@@ -15,7 +16,7 @@ use edit_list::change_list;
 use groups::WORK_BYTES;
 use policy::{Answer, GATE_MOST, OWN_MOST, RECORD_BYTES, Refusal};
 use promises::Request;
-use sheet::{GATE_BYTES, PAIR_BYTES, PairLayout, PairParts, Section};
+use sheet::{GATE_BYTES, PAIR_BYTES, PairLayout};
 
 // The largest A, and a record more: a new count is tested once it is written.
 const LIST_BYTES: usize = GATE_BYTES + RECORD_BYTES;
@@ -34,19 +35,14 @@ fn revise_gate_with(
 {
     let middle = old.order.middle;
     let used = old.end;
-    match change_list(&sheet[..middle], old.order.gate, request, new, out) {
-        Answer::Refused(f) => Answer::Refused(f),
-        Answer::Length(end) => match sheet::read_list(&out[..end], GATE_MOST) {
-            Section::Refused(f) => Answer::Refused(f),
-            Section::Rules { count, next: _ } => {
-                let around = find_around(&sheet[..used], old, request, &out[..end], count);
-                regroup(sheet, old, &out[..end], around, work)
-            }
-        },
-    }
+    let end = change_list(&sheet[..middle], old.order.gate, request, new, out)?;
+    let list = &out[..end];
+    let section = sheet::read_list(list, GATE_MOST)?;
+    let around = find_around(&sheet[..used], old, request, list, section.count);
+    regroup(sheet, old, list, around, work)
 }
 
-// The new A has a buffer of its own, since the work buffer is needed for its groups.
+// The new A has a buffer of its own, since the work buffer is needed for its groups, and of a fixed size, since there is no heap.
 fn revise_gate(
     sheet: &mut [u8],
     old: PairLayout,
@@ -75,18 +71,13 @@ fn revise_own(
 {
     let middle = old.order.middle;
     let third = old.order.end;
-    match change_list(&sheet[middle..third], old.order.own, request, new, work) {
-        Answer::Refused(f) => Answer::Refused(f),
-        Answer::Length(end) => match sheet::read_list(&work[..end], OWN_MOST) {
-            Section::Refused(f) => Answer::Refused(f),
-            Section::Rules { count, next: _ } => {
-                if !policy::has_room(old.boxes, count) {
-                    return Answer::Refused(Refusal::TooManyBoxes);
-                }
-                Answer::Length(edit_sheet::put_own(sheet, old, &work[..end]))
-            }
-        },
+    let end = change_list(&sheet[middle..third], old.order.own, request, new, work)?;
+    let list = &work[..end];
+    let section = sheet::read_list(list, OWN_MOST)?;
+    if !policy::has_room(old.boxes, section.count) {
+        return Err(Refusal::TooManyBoxes);
     }
+    Ok(edit_sheet::put_own(sheet, old, list))
 }
 
 // The sheet of the stated length read, and the list chosen: there are two, and any other is refused as a place that is not there.
@@ -94,17 +85,11 @@ fn revise(sheet: &mut [u8], used: usize, request: Request, new: &[u8], work: &mu
     requires { (pair_size ≤ length sheet.old) × (used ≤ length sheet.old) × (work_size ≤ length work.old) }
     ensures { Revised sheet.old used (asked request new.now) work.old result sheet.new work.new }
 {
-    match sheet::read_pair(&sheet[..used]) {
-        PairParts::Refused(f) => Answer::Refused(f),
-        PairParts::Parts(old) => {
-            if request.which == 0 {
-                return revise_gate(sheet, old, request, new, work);
-            }
-            if request.which == 1 {
-                return revise_own(sheet, old, request, new, work);
-            }
-            Answer::Refused(Refusal::NoPlace)
-        }
+    let old = sheet::read_pair(&sheet[..used])?;
+    match request.which {
+        0 => revise_gate(sheet, old, request, new, work),
+        1 => revise_own(sheet, old, request, new, work),
+        _ => Err(Refusal::NoPlace),
     }
 }
 
@@ -112,14 +97,8 @@ fn revise(sheet: &mut [u8], used: usize, request: Request, new: &[u8], work: &mu
 pub fn edit(sheet: &mut [u8], used: usize, request: Request, new: &[u8], work: &mut [u8]) -> Answer
     ensures { Edits sheet.old used (asked request new.now) work.old result sheet.new work.new }
 {
-    if sheet.len() < PAIR_BYTES {
-        return Answer::Refused(Refusal::BufferShort);
-    }
-    if sheet.len() < used {
-        return Answer::Refused(Refusal::BufferShort);
-    }
-    if work.len() < WORK_BYTES {
-        return Answer::Refused(Refusal::BufferShort);
+    if sheet.len() < PAIR_BYTES || sheet.len() < used || work.len() < WORK_BYTES {
+        return Err(Refusal::BufferShort);
     }
     let answer = revise(sheet, used, request, new, work);
     wire::zero(work, 0, WORK_BYTES);

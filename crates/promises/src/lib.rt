@@ -11,7 +11,8 @@ pub enum Change {
     Replace,
 }
 
-// What an edit is asked to do: which list it changes, A (0) or B (1), at which place, and how.
+// What an edit is asked to do: which list it changes, A (0) or B (1), at which place, and how. The list is a number, since C hands over
+// any, and number 9 for another list comes after every refusal of the sheet.
 #[derive(Clone, Copy)]
 pub struct Request {
     pub which: u32,

@@ -1,30 +1,31 @@
 -- `find_around` meets its contract. Assumes nothing.
 use native.Mathlib.Omega.{arith}
-use mathlib.Core.Path.{sym, ◌∙◌}
+use mathlib.Core.Path.{◌≡◌, sym, ◌∙◌}
 use lib.ListN.{drop}
 use Rattle.policy.specs.Fields.{count_size}
 use Rattle.wire.proofs.Records.{rules_in-length}
 use Rattle.sheet.specs.Steps.{rules_of}
 use Rattle.sheet.proofs.Pairs.{denies_most}
-use Rattle.edit_groups.proofs.Touched.{around_taken, around_put, around_kept}
+use Rattle.edit_groups.specs.Steps.{touched}
+use Rattle.edit_groups.proofs.Touched.{touched_first, touched_second, around_all, around_kept}
 use Rattle.edit_groups.proofs.find_around.Goals as goal
+use Rattle.edit_groups.proofs.find_around.Goals.{then-any_allow, else-any_allow}
 
-pub returns-then-any_allow : goal.returns-then-any_allow
-returns-then-any_allow c =
+pub overflow_add-later : goal.overflow_add-later
+overflow_add-later c =
     let a = c.args in
-    around_taken a.pair.now a.list.now a.old.order.gate a.count a.request.place a.request.change c.requires.taken c.requires.put c.count_denies-earlier.ensures c.requires.groups_are c.taken_by-taken.ensures.0 c.put_by-put.ensures.0 (sym c.if-any_allow.true ∙ c.any_allow.ensures)
+    omega (arith, c.taken_and_put-taken.ensures, c.count_denies-earlier.ensures, denies_most (rules_of a.request.place a.pair.now), rules_in-length a.request.place (drop count_size a.pair.now), c.requires.gate_there, c.requires.taken)
 
-pub returns-then-any_allow-2 : goal.returns-then-any_allow-2
-returns-then-any_allow-2 c =
+pub returns-then-touched : goal.returns-then-touched
+returns-then-touched c =
     let a = c.args in
-    around_put a.pair.now a.list.now a.old.order.gate a.count a.request.place a.request.change c.requires.taken c.requires.put c.count_denies-earlier.ensures c.requires.groups_are c.taken_by-taken.ensures.0 c.put_by-put.ensures.0 (sym c.if-any_allow.false ∙ c.any_allow.ensures) (sym c.if-any_allow-2.true ∙ c.any_allow-2.ensures)
+    let is : c.if-any_allow.touched ≡ touched a.request.place a.request.change (rules_of a.old.order.gate a.pair.now) (rules_of a.count a.list.now) =
+    elim c.if-any_allow.branch [ then-any_allow w ↦ w.touched-is ∙ w.if-any_allow.true ∙ touched_first c.requires c.count_denies-earlier.ensures c.taken_and_put-taken.ensures (sym w.if-any_allow.true ∙ c.any_allow.ensures) | else-any_allow w ↦ w.touched-is ∙ touched_second c.requires c.count_denies-earlier.ensures c.taken_and_put-taken.ensures (sym w.if-any_allow.false ∙ c.any_allow.ensures) w.any_allow-touched.ensures ] in
+    around_all c.requires c.count_denies-earlier.ensures c.taken_and_put-taken.ensures is c.if-touched.true
 
-pub overflow_add-result : goal.overflow_add-result
-overflow_add-result c =
+pub returns-else-touched : goal.returns-else-touched
+returns-else-touched c =
     let a = c.args in
-    omega (arith, c.taken_by-taken.ensures.1, c.count_denies-earlier.ensures, denies_most (rules_of a.request.place a.pair.now), rules_in-length a.request.place (drop count_size a.pair.now), c.requires.gate_there, c.requires.taken)
-
-pub returns : goal.returns
-returns c =
-    let a = c.args in
-    around_kept a.pair.now a.list.now a.old.order.gate a.count a.request.place a.request.change c.requires.taken c.requires.put c.count_denies-earlier.ensures c.requires.groups_are c.taken_by-taken.ensures.0 c.put_by-put.ensures.0 (sym c.if-any_allow.false ∙ c.any_allow.ensures) (sym c.if-any_allow-2.false ∙ c.any_allow-2.ensures)
+    let is : c.if-any_allow.touched ≡ touched a.request.place a.request.change (rules_of a.old.order.gate a.pair.now) (rules_of a.count a.list.now) =
+    elim c.if-any_allow.branch [ then-any_allow w ↦ w.touched-is ∙ w.if-any_allow.true ∙ touched_first c.requires c.count_denies-earlier.ensures c.taken_and_put-taken.ensures (sym w.if-any_allow.true ∙ c.any_allow.ensures) | else-any_allow w ↦ w.touched-is ∙ touched_second c.requires c.count_denies-earlier.ensures c.taken_and_put-taken.ensures (sym w.if-any_allow.false ∙ c.any_allow.ensures) w.any_allow-touched.ensures ] in
+    around_kept c.requires c.count_denies-earlier.ensures c.taken_and_put-taken.ensures is c.if-touched.false

@@ -1,12 +1,14 @@
 -- `none_denies` meets its contract. Assumes nothing.
+use borrow.Author.Rules.{rules}
 use native.Mathlib.Omega.{arith}
-use mathlib.Core.Path.{ap, ◌∙◌}
-use Rattle.policy.specs.Rules.{Rule, is_allow}
+use mathlib.Core.Path.{◌≡◌}
+use mathlib.Core.Bool.{true}
+use lib.Dec.{eqb}
 use Rattle.edit_groups.proofs.Joins.{no_rule, one_rule}
 use Rattle.edit_groups.proofs.none_denies.Goals as goal
 
 pub returns-then-to-place : goal.returns-then-to-place
-returns-then-to-place c = no_rule _ _ _ (omega (arith, c.if-to-place.true))
+returns-then-to-place c = let e : eqb c.args.to c.args.place ≡ true = search rules in rw e (no_rule _ _ _ (omega arith))
 
-pub returns : goal.returns
-returns c = one_rule _ _ _ (omega (arith, c.if-to-place.false)) _ (c.is_allow.ensures ∙ ap (λ (r : Rule). is_allow r) c.rule_at.ensures)
+pub returns-else-to-place : goal.returns-else-to-place
+returns-else-to-place c = one_rule _ _ _ (omega (arith, c.if-to-place.false, c.requires)) _ c.any_allow.ensures
