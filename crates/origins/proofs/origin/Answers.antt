@@ -1,8 +1,13 @@
 -- `origin` meets its contract. Assumes nothing.
-use Rattle.origins.proofs.Calls.{passes_check, traced_small, numbers_short, work_too_short, origin_refused, origin_told}
+use mathlib.Core.Path.{◌≡◌, sym, ap, ◌∙◌, subst}
+use mathlib.Core.List.{List}
+use Prim.Native.Nat.{ℕ}
+use Rattle.policy.specs.Fields.{limits}
+use Rattle.policy.specs.Refusals.{accepted}
+use Rattle.sheet.specs.Steps.{pair_at}
+use Rattle.promises.specs.Calls.{check_of}
+use Rattle.origins.proofs.Calls.{numbers_short, work_too_short, origin_refused, origin_told}
 use Rattle.origins.proofs.origin.Goals as goal
-
--- A sheet is told of only once it has passed check.
 
 pub returns-then-numbers-lt-ORIGIN_NUMBERS : goal.returns-then-numbers-lt-ORIGIN_NUMBERS
 returns-then-numbers-lt-ORIGIN_NUMBERS c = numbers_short _ _ _ _ c.if-numbers-lt-ORIGIN_NUMBERS.true
@@ -10,17 +15,11 @@ returns-then-numbers-lt-ORIGIN_NUMBERS c = numbers_short _ _ _ _ c.if-numbers-lt
 pub returns-then-work-lt-WORK_BYTES : goal.returns-then-work-lt-WORK_BYTES
 returns-then-work-lt-WORK_BYTES c = work_too_short _ _ _ _ c.if-numbers-lt-ORIGIN_NUMBERS.false c.if-work-lt-WORK_BYTES.true
 
-pub trace_packet-requires : goal.trace_packet-requires
-trace_packet-requires c = passes_check (rw c.in-Parts.is at c.checked.ensures.0)
+pub returns-in-Err : goal.returns-in-Err
+returns-in-Err c =
+    origin_refused _ _ _ _ c.if-numbers-lt-ORIGIN_NUMBERS.false c.if-work-lt-WORK_BYTES.false c.new.ensures.cleared c.in-Err.ensures.checks
 
-pub tell-requires : goal.tell-requires
-tell-requires c =
-    (c.if-numbers-lt-ORIGIN_NUMBERS.false, traced_small (passes_check (rw c.in-Parts.is at c.checked.ensures.0)) _ _ c.trace_packet.ensures)
-
-pub returns-in-Refused : goal.returns-in-Refused
-returns-in-Refused c =
-    origin_refused _ _ _ _ c.if-numbers-lt-ORIGIN_NUMBERS.false c.if-work-lt-WORK_BYTES.false c.checked.ensures.1 (rw c.in-Refused.is at c.checked.ensures.0)
-
-pub returns-in-Parts : goal.returns-in-Parts
-returns-in-Parts c =
-    origin_told _ _ _ _ c.if-numbers-lt-ORIGIN_NUMBERS.false c.if-work-lt-WORK_BYTES.false c.checked.ensures.1 (passes_check (rw c.in-Parts.is at c.checked.ensures.0)) c.trace_packet.ensures c.tell.ensures
+pub returns-in-Ok : goal.returns-in-Ok
+returns-in-Ok c =
+    origin_told _ _ _ _ c.if-numbers-lt-ORIGIN_NUMBERS.false c.if-work-lt-WORK_BYTES.false c.new.ensures.cleared
+    (ap (λ (s : List ℕ). check_of limits s) (sym c.in-Ok.ensures.checks) ∙ c.in-Ok.checked.checked.checks) c.trace_packet.ensures.traced c.tell.ensures
