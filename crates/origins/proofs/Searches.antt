@@ -1,5 +1,5 @@
 -- Boxes tried one after another, and those of records. Assumes nothing.
-use mathlib.Core.Path.{◌≡◌, refl, ap, subst, ◌∙◌}
+use mathlib.Core.Path.{◌≡◌, refl, ap, sym, subst, ◌∙◌}
 use mathlib.Core.List.{List, [], ◌∷◌}
 use mathlib.Core.Bool.{Bool, true, false, cond}
 use Prim.Native.Nat.{ℕ, zero, suc, ◌+◌, ◌*◌, ◌-◌, ◌<◌, ◌≤◌}
@@ -13,10 +13,12 @@ use Rattle.policy.specs.Refusals.{rules_refusal}
 use Rattle.policy.specs.Steps.{box_number, regions}
 use Rattle.policy.proofs.Moves.{rules_refusal-cons, rule_proper}
 use Rattle.wire.specs.Records.{box_in, rule_in, rules_in, each_in}
+use Rattle.origins.specs.Steps.{run_boxes, Holds}
+use Rattle.origins.specs.declared.Run.{Run}
 use Rattle.wire.proofs.Items.{items_turn, size_turn, items_none}
 
--- A search of boxes in numbers, of which some are passed: what is left from a number of them on.
-module _ (p : Packet) (step : ℕ) (read : List ℕ → Region) (s : List ℕ) (at count passed : ℕ) where
+-- Boxes in numbers, of which some are passed: what is left from a number of them on.
+module _ (step : ℕ) (read : List ℕ → Region) (s : List ℕ) (at count passed : ℕ) where
   abbrev pub left_in : List Region
   left_in = each_in step read (count - passed) (drop at s)
 
@@ -24,13 +26,13 @@ module _ (p : Packet) (step : ℕ) (read : List ℕ → Region) (s : List ℕ) (
   none_left h = items_none step read (drop at s) (count - passed) (omega arith)
 
   module _ (some : passed < count) where
-    abbrev this : Region
+    abbrev pub this : Region
     this = read (drop at s)
 
-    abbrev later : List Region
+    abbrev pub later : List Region
     later = each_in step read (count - (passed + 1)) (drop (at + step) s)
 
-    left_turn : left_in ≡ this ∷ later
+    pub left_turn : left_in ≡ this ∷ later
     left_turn =
         let e : count - passed - 1 ≡ count - (passed + 1) = omega arith in
         items_turn step read s at (count - passed) (omega arith) ∙ ap (λ (n : ℕ). this ∷ each_in step read n (drop (at + step) s)) e
@@ -46,7 +48,8 @@ module _ (p : Packet) (step : ℕ) (read : List ℕ → Region) (s : List ℕ) (
     unfolding Each
     left_proper h = subst (Each Proper) left_turn h
 
-    module _ {all : ℕ} (is : all ≡ passed + box_number p left_in) where
+    -- the search for the first that has a packet
+    module _ (p : Packet) {all : ℕ} (is : all ≡ passed + box_number p left_in) where
       number : all ≡ passed + box_number p (this ∷ later)
       number = is ∙ ap (λ (l : List Region). passed + box_number p l) left_turn
 
@@ -57,6 +60,10 @@ module _ (p : Packet) (step : ℕ) (read : List ℕ → Region) (s : List ℕ) (
       pub this_misses : inside p this ≡ false → all ≡ passed + 1 + box_number p later
       unfolding box_number
       this_misses h = let e : box_number p (this ∷ later) ≡ suc (box_number p later) = rw h in omega (arith, number)
+
+-- A run that holds boxes holds those that are read.
+pub holds_read : {size : ℕ} {read : List ℕ → Region} {s : List ℕ} {run : Run} {boxes : List Region} → Holds size read s run boxes → Holds size read s run (run_boxes read s run)
+holds_read h = record { apart = h.apart; inside = h.inside; fits = h.fits; are = refl; proper = subst (Each Proper) (sym h.are) h.proper }
 
 -- A number is at most how many there are.
 pub number_within : (p : Packet) (bs : List Region) → box_number p bs ≤ length bs

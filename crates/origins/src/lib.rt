@@ -49,7 +49,7 @@ impl<'a> CheckedSheet<'a> {
     }
 
     // The rule at a place of A.
-    fn gate_rule(self, place: usize) -> Rule
+    pub fn gate_rule(self, place: usize) -> Rule
         requires { place < self.layout.order.gate }
         ensures { rule_of result ≡ place_in (pair_at self.entry.layout self.entry.bytes.now).order.gate place }
     {

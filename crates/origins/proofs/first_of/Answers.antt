@@ -8,27 +8,30 @@ use Rattle.origins.proofs.first_of.Goals as goal
 
 pub has-requires : goal.has-requires
 has-requires g c =
-    let packet = packet_of c.args.p in
     let numbers = g.B.Boxes.numbers c.args.boxes in
-    let h = left_inside packet _ g.B.Boxes.region_in _ _ _ _ c.loop-number-test.true c.loop-number.invariant.0 in
-    (omega (arith, c.requires.apart), (left_proper packet _ _ numbers c.loop-number.at _ _ c.loop-number-test.true c.loop-number.invariant.1).0)
+    let h = left_inside _ g.B.Boxes.region_in _ _ _ _ c.loop-number-test.true c.loop-number.invariant.0 in
+    (omega (arith, c.requires.apart), (left_proper _ _ numbers c.loop-number.at _ _ c.loop-number-test.true c.loop-number.invariant.1).0)
 
 pub returns-then-has : goal.returns-then-has
-returns-then-has g c = this_has _ _ _ (g.B.Boxes.numbers c.args.boxes) c.loop-number.at _ _ c.loop-number-test.true c.loop-number.invariant.2 (sym c.has.ensures ∙ c.if-has.true)
+returns-then-has g c =
+    this_has _ _ (g.B.Boxes.numbers c.args.boxes) c.loop-number.at _ _ c.loop-number-test.true _ c.loop-number.invariant.2 (sym c.has.ensures ∙ c.if-has.true)
 
 pub overflow_add-at : goal.overflow_add-at
 overflow_add-at g c =
-    let h = left_inside (packet_of c.args.p) _ g.B.Boxes.region_in _ _ _ _ c.loop-number-test.true c.loop-number.invariant.0 in omega (arith, c.requires.fits)
+    let h = left_inside _ g.B.Boxes.region_in _ _ _ _ c.loop-number-test.true c.loop-number.invariant.0 in
+    omega (arith, c.requires.fits)
 
 pub loop-number-preserved : goal.loop-number-preserved
-loop-number-preserved g c = (
-  left_inside (packet_of c.args.p) _ g.B.Boxes.region_in _ _ _ _ c.loop-number-test.true c.loop-number.invariant.0,
-  (left_proper (packet_of c.args.p) _ _ _ _ _ _ c.loop-number-test.true c.loop-number.invariant.1).1,
-  this_misses _ _ _ _ _ _ _ c.loop-number-test.true c.loop-number.invariant.2 (sym c.has.ensures ∙ c.if-has.false),
-)
+loop-number-preserved g c =
+    let some = c.loop-number-test.true in
+    let h = c.loop-number.invariant in (
+      left_inside _ g.B.Boxes.region_in _ _ _ _ some h.0,
+      (left_proper _ _ _ _ _ _ some h.1).1,
+      this_misses _ _ _ _ _ _ some _ h.2 (sym c.has.ensures ∙ c.if-has.false),
+    )
 
 pub returns : goal.returns
 unfolding box_number
 returns g c =
-    let e = ap (box_number (packet_of c.args.p)) (none_left (packet_of c.args.p) c.args.run.step g.B.Boxes.region_in (g.B.Boxes.numbers c.args.boxes) c.loop-number.at c.args.run.count c.loop-number.number (omega (arith, c.loop-number-test.false))) in
+    let e = ap (box_number (packet_of c.args.p)) (none_left c.args.run.step g.B.Boxes.region_in (g.B.Boxes.numbers c.args.boxes) c.loop-number.at c.args.run.count c.loop-number.number (omega (arith, c.loop-number-test.false))) in
     omega (arith, c.loop-number.invariant.2, c.loop-number.auto.number-end)

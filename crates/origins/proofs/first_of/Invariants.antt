@@ -15,5 +15,5 @@ invariant-loop-number g l =
     let packet = packet_of l.p in
     let read = g.B.Boxes.region_in in
     let numbers = g.B.Boxes.numbers l.boxes in
-    let left = left_in packet l.run.step read numbers l.at l.run.count l.number in
+    let left = left_in l.run.step read numbers l.at l.run.count l.number in
     (l.at + l.run.step * (l.run.count - l.number) ≤ length numbers) × Each Proper left × (box_number packet (run_boxes read numbers l.run) ≡ l.number + box_number packet left)

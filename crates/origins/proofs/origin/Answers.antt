@@ -1,10 +1,8 @@
 -- `origin` meets its contract. Assumes nothing.
-use mathlib.Core.Path.{◌≡◌, sym, ap, ◌∙◌, subst}
+use mathlib.Core.Path.{sym, ap, ◌∙◌}
 use mathlib.Core.List.{List}
 use Prim.Native.Nat.{ℕ}
 use Rattle.policy.specs.Fields.{limits}
-use Rattle.policy.specs.Refusals.{accepted}
-use Rattle.sheet.specs.Steps.{pair_at}
 use Rattle.promises.specs.Calls.{check_of}
 use Rattle.origins.proofs.Calls.{numbers_short, work_too_short, origin_refused, origin_told}
 use Rattle.origins.proofs.origin.Goals as goal

@@ -1,6 +1,6 @@
 -- `trace_own` meets its contract. Assumes nothing.
 use native.Mathlib.Omega.{arith}
-use mathlib.Core.Path.{◌≡◌, ap, ◌∙◌}
+use mathlib.Core.Path.{ap, ◌∙◌}
 use Rattle.policy.specs.Move.{Pair}
 use Rattle.policy.specs.Steps.{box_number}
 use Rattle.policy.specs.Values.{packet_of, rule_of}

@@ -1,10 +1,9 @@
 -- `trace_packet` meets its contract. Assumes nothing.
 use native.Mathlib.Omega.{arith}
-use mathlib.Core.Path.{◌≡◌, ap, sym, ◌∙◌}
-use lib.ListN.{length}
+use mathlib.Core.Path.{ap, sym, ◌∙◌}
 use Rattle.policy.specs.Move.{Pair}
 use Rattle.policy.specs.Steps.{box_number}
-use Rattle.policy.specs.Values.{packet_of, rule_of}
+use Rattle.policy.specs.Values.{packet_of}
 use Rattle.origins.specs.Steps.{place_in, TraceSmall}
 use Rattle.origins.proofs.Traces.{run_count, gate_count_lem, nowhere, gate_there, gate_allows, gate_drops}
 use Rattle.origins.proofs.trace_packet.Goals as goal
