@@ -1,7 +1,7 @@
--- `plus` meets its contract. Assumes nothing.
+-- `add` meets its contract. Assumes nothing.
 use Rattle.std.proofs.Common.{refl}
 use Rattle.load.specs.Load.{plus}
-use Rattle.load.proofs.Load.plus.Goals as goal
+use Rattle.load.proofs.LoadAdd.add.Goals as goal
 
 pub returns : goal.returns
 unfolding plus
