@@ -3,16 +3,17 @@ use mathlib.Core.Path.{◌≡◌, refl, ap, sym, ◌∙◌}
 use mathlib.Core.List.{List, []}
 use Prim.Native.Nat.{ℕ, zero, suc, ◌+◌, ◌*◌, ◌-◌, ◌^◌, ◌<◌, ◌≤◌}
 use native.Mathlib.Omega.{arith}
-use lib.ListN.{length, get_or, take, drop, length-drop}
+use lib.ListN.{length, get_or, take, drop, length-append, length-drop}
 use lib.Seq.{drop-drop, take_all}
 use Rattle.lists.proofs.Parts.{tail_whole}
 use Rattle.policy.specs.Fields.{count_size, record_size, box_size}
 use Rattle.policy.specs.Ranges.{Region}
 use Rattle.policy.specs.Rules.{rule, denies}
-use Rattle.policy.specs.Move.{Pair, together}
+use Rattle.policy.specs.Move.{Pair, together, denials, cell_list}
 use Rattle.policy.specs.Demands.{group_at}
 use Rattle.policy.specs.Steps.{regions}
 use Rattle.policy.proofs.Kept.{deny_counts}
+use Rattle.policy.proofs.Places.{denials-length}
 use Rattle.wire.specs.Records.{box_in, rule_in, each_in}
 use Rattle.wire.specs.Lists.{count_in}
 use Rattle.wire.proofs.Records.{rules_in-length, rule_in_place}
@@ -55,6 +56,10 @@ module _ {s : List ℕ} {l : PairLayout} (c : Checked s l) where
 
   pub own_length : length q.order.own ≡ l.order.own
   own_length = rules_in-length l.order.own (drop count_size (drop l.order.middle s))
+
+  -- the places of the new cell list are those of the boxes and of the own rules
+  pub places_are : l.boxes + l.order.own ≡ length (cell_list q)
+  places_are = omega (arith, length-append (denials (together q.groups)) q.order.own, denials-length (together q.groups), own_length, c.laid.boxes_are)
 
   module _ {i : ℕ} where
     pub gate_record : i < l.order.gate → count_size + record_size * i + record_size ≤ length s

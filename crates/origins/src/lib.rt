@@ -8,7 +8,7 @@ ghost use Rattle.policy.specs.Fields.{box_size, limits, work_size};
 ghost use Rattle.policy.specs.Ranges.{Region, inside};
 ghost use Rattle.policy.specs.Rules.{Proper, found, first};
 ghost use Rattle.policy.specs.Refusals.{accepted, refused, number_of};
-ghost use Rattle.policy.specs.Move.{Pair};
+ghost use Rattle.policy.specs.Move.{Pair, cell_list};
 ghost use Rattle.policy.specs.Demands.{group_at};
 ghost use Rattle.policy.specs.Steps.{box_number, regions};
 ghost use Rattle.policy.specs.Values.{packet_of, rule_of};
@@ -46,6 +46,14 @@ impl<'a> CheckedSheet<'a> {
             PairParts::Refused(f) => Err(f),
             PairParts::Parts(layout) => Ok(CheckedSheet { bytes, layout }),
         }
+    }
+
+    // How many places the new cell list has.
+    pub fn places(self) -> usize
+        ensures places { result ≡ length (cell_list (pair_at self.entry.layout self.entry.bytes.now)) }
+        ensures few { result ≤ limits.total }
+    {
+        self.layout.boxes + self.layout.order.own
     }
 
     // The rule at a place of A.
