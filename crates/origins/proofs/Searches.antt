@@ -65,6 +65,11 @@ module _ (step : ℕ) (read : List ℕ → Region) (s : List ℕ) (at count pass
 pub holds_read : {size : ℕ} {read : List ℕ → Region} {s : List ℕ} {run : Run} {boxes : List Region} → Holds size read s run boxes → Holds size read s run (run_boxes read s run)
 holds_read h = record { apart = h.apart; inside = h.inside; fits = h.fits; are = refl; proper = subst (Each Proper) (sym h.are) h.proper }
 
+-- What is found in a run is found in the boxes that it holds.
+pub number_held : {size : ℕ} {read : List ℕ → Region} {s : List ℕ} {run : Run} {boxes : List Region} → Holds size read s run boxes → (p : Packet) {i : ℕ}
+    → i ≡ box_number p (run_boxes read s run) → i ≡ box_number p boxes
+number_held h p is = is ∙ ap (box_number p) h.are
+
 -- A number is at most how many there are.
 pub number_within : (p : Packet) (bs : List Region) → box_number p bs ≤ length bs
 unfolding box_number

@@ -109,3 +109,12 @@ module _ (s : List ℕ) (q : Pair) (checks : check_of limits s ≡ accepted q) (
     pub gate_traced : (front b : ℕ) → front ≡ front_of q j → b ≡ box_number p (group_at q j) → Traced p q (Gate j b (front + b))
     unfolding trace_heard GateTraced place_of
     gate_traced front b f e = record { says = rw (f, e) (sym (by_gate s q checks p j dropped)); gate = dropped }
+
+    -- and its numbers are small
+    module _ (front b : ℕ) (before : front ≡ front_of q j) (is : b ≡ box_number p (group_at q j)) where
+      pub gate_small : TraceSmall (Gate j b (front + b))
+      gate_small = traced_small _ (gate_traced front b before is)
+
+      pub gate_few : front + b < limits.total
+      unfolding TraceSmall
+      gate_few = gate_small.2

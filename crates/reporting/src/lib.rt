@@ -25,6 +25,17 @@ pub const HITS_NUMBERS: usize = TOTAL_MOST;
 // The bytes of one reading.
 pub const READING_BYTES: usize = 4;
 
+// Whether both have a reading for each of so many places, and no byte more.
+fn are_readings(earlier: &[u8], later: &[u8], places: usize) -> bool
+    requires { places ≤ hits_size }
+    ensures { result ≡ are_readings places earlier.now later.now }
+{
+    if earlier.len() != READING_BYTES * places {
+        return false;
+    }
+    later.len() == READING_BYTES * places
+}
+
 // An earlier and a later reading of the counter at each of so many places.
 #[derive(Clone, Copy)]
 pub struct Readings<'a> {
@@ -36,16 +47,12 @@ pub struct Readings<'a> {
 }
 
 impl<'a> Readings<'a> {
-    // Both have a reading for each of so many places, and no byte more; else the refusal.
+    // Readings that fit so many places, or the refusal.
     pub fn new(earlier: &'a [u8], later: &'a [u8], places: usize) -> Result<Readings<'a>, Refusal>
         requires { places ≤ hits_size }
         ensures { MatchResult result (λ r. (r.earlier.now ≡ earlier.now) × (r.later.now ≡ later.now) × (r.places ≡ places)) (λ f. (f ≡ LengthWrong) × (are_readings places earlier.now later.now ≡ false)) }
     {
-        let bytes = READING_BYTES * places;
-        if earlier.len() != bytes {
-            return Err(Refusal::LengthWrong);
-        }
-        if later.len() != bytes {
+        if !are_readings(earlier, later, places) {
             return Err(Refusal::LengthWrong);
         }
         Ok(Readings {

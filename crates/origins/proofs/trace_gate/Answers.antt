@@ -1,27 +1,29 @@
 -- `trace_gate` meets its contract. Assumes nothing.
 use native.Mathlib.Omega.{arith}
-use mathlib.Core.Path.{ap, ◌∙◌}
-use Rattle.policy.specs.Steps.{box_number}
 use Rattle.policy.specs.Values.{packet_of}
-use Rattle.origins.specs.Steps.{TraceSmall}
-use Rattle.origins.proofs.Traces.{dropped_denies, gate_traced, traced_small}
+use Rattle.origins.proofs.Searches.{number_held}
+use Rattle.origins.proofs.Traces.{dropped_denies, gate_traced, gate_small, gate_few}
 use Rattle.origins.proofs.trace_gate.Goals as goal
 
+-- The rule that drops a packet is a deny rule.
+-- So it has a group.
 pub group-group-requires : goal.group-group-requires
 group-group-requires g c = let k = g.met.B.Boxes.checks c.args.boxes in dropped_denies k.0 _ k.1 _ c.requires
+
+pub overflow_add-place : goal.overflow_add-place
+overflow_add-place g c =
+    let k = g.met.B.Boxes.checks c.args.boxes in
+    let h = c.group-group.ensures in
+    omega (arith, gate_few k.0 _ k.1 _ c.requires _ _ h.front (number_held h.run (packet_of c.args.p) c.first_of-number.ensures))
 
 pub returns-clause-traced : goal.returns-clause-traced
 returns-clause-traced g c =
     let k = g.met.B.Boxes.checks c.args.boxes in
-    gate_traced k.0 _ k.1 _ c.requires _ _ c.group-group.ensures.front (c.first_of-number.ensures ∙ ap (box_number (packet_of c.args.p)) c.group-group.ensures.run.are)
+    let h = c.group-group.ensures in
+    gate_traced k.0 _ k.1 _ c.requires _ _ h.front (number_held h.run (packet_of c.args.p) c.first_of-number.ensures)
 
 pub returns-clause-small : goal.returns-clause-small
-returns-clause-small g c = let k = g.met.B.Boxes.checks c.args.boxes in traced_small k.0 _ k.1 _ _ (returns-clause-traced g c)
-
-pub overflow_add-place : goal.overflow_add-place
-unfolding TraceSmall
-overflow_add-place g c =
+returns-clause-small g c =
     let k = g.met.B.Boxes.checks c.args.boxes in
-    let t =
-    gate_traced k.0 _ k.1 _ c.requires _ _ c.group-group.ensures.front (c.first_of-number.ensures ∙ ap (box_number (packet_of c.args.p)) c.group-group.ensures.run.are) in
-    omega (arith, (traced_small k.0 _ k.1 _ _ t).2)
+    let h = c.group-group.ensures in
+    gate_small k.0 _ k.1 _ c.requires _ _ h.front (number_held h.run (packet_of c.args.p) c.first_of-number.ensures)

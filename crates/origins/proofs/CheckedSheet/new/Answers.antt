@@ -2,6 +2,8 @@
 use Rattle.origins.proofs.Calls.{passes_check, fails_check}
 use Rattle.origins.proofs.CheckedSheet.new.Goals as goal
 
+-- A sheet that is answered passes check.
+
 pub invariant_of-result : goal.invariant_of-result
 invariant_of-result c = record { checked = passes_check (rw c.in-Parts.is at c.checked.ensures.0) }
 
