@@ -1,5 +1,6 @@
 -- What each arm of a check gives: the pair sheet refused, 6, 8, or its parts; and two outcomes of one check are equal.
 -- Assumes nothing.
+use Rattle.std.specs.Prelude.{Ok, Err}
 use mathlib.Core.Path.{◌≡◌, refl, ap, sym, ◌∙◌}
 use mathlib.Core.List.{List}
 use mathlib.Core.Bool.{Bool, true, false}
@@ -9,11 +10,9 @@ use lib.ListN.{length, take, drop}
 use borrow.Author.Tests.{lt-leb}
 use Rattle.policy.specs.Fields.{limits, work_size}
 use Rattle.policy.specs.Ranges.{Region}
-use Rattle.policy.specs.Refusals.{accepted, refused, number_of}
+use Rattle.policy.specs.Refusals.{Answer, accepted, refused, number_of}
 use Rattle.policy.specs.Move.{together, work, Order, Pair, moved}
 use Rattle.policy.specs.Check.{same_groups, check_refusal}
-use Rattle.policy.specs.declared.Answer.{Answer}
-use Rattle.policy.specs.declared.Answer.TheVariants.{Length, Refused}
 use Rattle.policy.specs.declared.Refusal.{Refusal}
 use Rattle.policy.specs.declared.Refusal.TheVariants.{BufferShort, TooManyPieces, GroupsDiffer}
 use Rattle.policy.proofs.Answers.{said_once}
@@ -33,7 +32,7 @@ use Rattle.promises.proofs.Good.{moved_good}
 use Rattle.promises.proofs.Calls.{room_there}
 use Rattle.checking.proofs.Drafting.{AllDrafted, draft_over, draft_light, draft_boxes, draft_moves, draft_end, draft_content}
 
-pub check_refused : {s : List ℕ} {f : Refusal} → pair_in limits s ≡ refused (number_of f) → CheckRead s (P.Refused f)
+pub check_refused : {s : List ℕ} {f : Refusal} → pair_in limits s ≡ refused (number_of f) → CheckRead s (P.Err f)
 unfolding check_of pair_heard OfPair
 check_refused e = record { says = rw e; laid = tt }
 
@@ -55,12 +54,12 @@ module _ {s : List ℕ} {l : PairLayout} (a : PairAccepted s l) where
   o = p.order
 
   module _ {draft w draft' w' : List ℕ} where
-    pub check_six : AllDrafted a draft w D.TooManyPieces draft' w' → CheckRead s (P.Refused TooManyPieces)
+    pub check_six : AllDrafted a draft w D.TooManyPieces draft' w' → CheckRead s (P.Err TooManyPieces)
     unfolding check_of checked_of check_refusal work pair_heard OfPair
     check_six x = record { says = rw (a.reads, draft_over a x); laid = tt }
 
     module _ {g b end : ℕ} (x : AllDrafted a draft w (D.Groups g b end) draft' w') where
-      differs : (p.groups ≡ (moved o).groups → ⊥) → CheckRead s (P.Refused GroupsDiffer)
+      differs : (p.groups ≡ (moved o).groups → ⊥) → CheckRead s (P.Err GroupsDiffer)
       unfolding check_of checked_of check_refusal work pair_heard OfPair
       differs f =
           let e = test_fails (same_groups p.groups (moved o).groups) (λ t. f (groups_sound p.groups (moved o).groups t)) in
@@ -87,7 +86,7 @@ module _ {s : List ℕ} {l : PairLayout} (a : PairAccepted s l) where
             cc
 
         module _ {t : Bool} (found : SameGroups s l draft' b end t) where
-          pub check_differs : t ≡ false → CheckRead s (P.Refused GroupsDiffer)
+          pub check_differs : t ≡ false → CheckRead s (P.Err GroupsDiffer)
           check_differs f =
               differs (λ e.
               let h : b ≡ l.boxes = draft_boxes a x ∙ (ap (λ (g : List (List Region)). length (together g)) (sym e) ∙ sym a.laid.boxes_are) in
@@ -103,16 +102,16 @@ module _ {s : List ℕ} {l : PairLayout} (a : PairAccepted s l) where
 
 -- The call: 1 unless the work buffer is long enough, then what the check came to.
 module _ (s w : List ℕ) where
-  pub check_short : length w < work_size → Checks s w (Refused BufferShort) w
+  pub check_short : length w < work_size → Checks s w (Err BufferShort) w
   unfolding room_for work_after answered
   check_short h = let e = lt-leb work_size (length w) h in record { answer = rw e; work = rw e }
 
   module _ (h : work_size ≤ length w) {w' : List ℕ} (e : w' ≡ zeroed 0 work_size w) where
-    pub check_no : {f : Refusal} → CheckRead s (P.Refused f) → Checks s w (Refused f) w'
+    pub check_no : {f : Refusal} → CheckRead s (P.Err f) → Checks s w (Err f) w'
     unfolding work_after answered pair_heard
     check_no x = let l = room_there work_size w h in record { answer = rw (l, ← x.says); work = rw l e }
 
-    pub check_yes : {l : PairLayout} → CheckRead s (P.Parts l) → Checks s w (Length 0) w'
+    pub check_yes : {l : PairLayout} → CheckRead s (P.Parts l) → Checks s w (Ok 0) w'
     unfolding work_after answered pair_heard
     check_yes x = let l = room_there work_size w h in record { answer = rw (l, ← x.says); work = rw l e }
 

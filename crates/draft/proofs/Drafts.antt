@@ -19,38 +19,40 @@ use Rattle.wire.proofs.Records.{rules_from, rules_in-length}
 use Rattle.sheet.specs.Pairs.{group_bytes, groups_bytes}
 use Rattle.draft.specs.Steps.{stretch, Told, Drafting}
 use Rattle.draft.specs.declared.Drafted.{Drafted}
-use Rattle.draft.specs.declared.Drafted.TheVariants.{Groups, TooManyPieces}
+use Rattle.std.specs.Prelude.{Result, Ok, Err}
+use Rattle.policy.specs.declared.Refusal.{Refusal}
+use Rattle.policy.specs.declared.Refusal.TheVariants.{TooManyPieces}
 use Rattle.wire.proofs.Items.{bytes-append}
 
 -- nothing to draft
-pub drafting_none : (lim : Limits) (draft : List ℕ) (at boxes : ℕ) → Drafting lim [] draft at boxes (Groups 0 boxes at) draft
+pub drafting_none : (lim : Limits) (draft : List ℕ) (at boxes : ℕ) → Drafting lim [] draft at boxes (Ok (record { groups = 0; boxes = boxes; end = at })) draft
 unfolding Told any_over together each_bytes
 drafting_none lim draft at boxes = record { told = (refl, omega arith, λ h. (omega arith, refl)); count = refl }
 
 -- one stretch behind another
-pub drafting_over : {lim : Limits} {x : List Slot} (y : List Slot) {draft draft' : List ℕ} (last : List ℕ) {at boxes : ℕ}
-    → Drafting lim x draft at boxes TooManyPieces draft' → Drafting lim (x ++ y) draft at boxes TooManyPieces last
+pub drafting_over : {lim : Limits} {x : List Slot} (y : List Slot) {draft draft' : List ℕ} (last : List ℕ) {at boxes : ℕ} {f : Refusal}
+    → Drafting lim x draft at boxes (Err f) draft' → Drafting lim (x ++ y) draft at boxes (Err f) last
 unfolding Told
-drafting_over {lim} {x} y last h = record { told = over-append lim.pieces x y ∙ rw h.told; count = tt }
+drafting_over {lim} {x} y last h = record { told = (h.told.0, over-append lim.pieces x y ∙ rw h.told.1); count = tt }
 
 -- the answer of the second, with the groups of the first counted
-abbrev pub further : ℕ → Drafted → Drafted
-further g (Groups h b n) = Groups (g + h) b n
-further g TooManyPieces = TooManyPieces
+abbrev pub further : ℕ → Result Drafted Refusal → Result Drafted Refusal
+further g (Ok d) = Ok (record { groups = g + d.groups; boxes = d.boxes; end = d.end })
+further g (Err f) = Err f
 
-pub further_none : (r : Drafted) → further 0 r ≡ r
-further_none (Groups h b n) = ap (λ (k : ℕ). Groups k b n) (omega arith)
-further_none TooManyPieces = refl
+pub further_none : (r : Result Drafted Refusal) → further 0 r ≡ r
+further_none (Ok d) = ap (λ (k : ℕ). Ok (record { groups = k; boxes = d.boxes; end = d.end })) (omega arith)
+further_none (Err f) = refl
 
-pub further_twice : (g k : ℕ) (r : Drafted) → further g (further k r) ≡ further (g + k) r
-further_twice g k (Groups h b n) = ap (λ (j : ℕ). Groups j b n) (omega arith)
-further_twice g k TooManyPieces = refl
+pub further_twice : (g k : ℕ) (r : Result Drafted Refusal) → further g (further k r) ≡ further (g + k) r
+further_twice g k (Ok d) = ap (λ (j : ℕ). Ok (record { groups = j; boxes = d.boxes; end = d.end })) (omega arith)
+further_twice g k (Err f) = refl
 
-pub drafting_then : {lim : Limits} {x y : List Slot} {draft draft' last : List ℕ} {at boxes g b n : ℕ} (r : Drafted)
-    → Drafting lim x draft at boxes (Groups g b n) draft' → Drafting lim y draft' n b r last → Drafting lim (x ++ y) draft at boxes (further g r) last
+pub drafting_then : {lim : Limits} {x y : List Slot} {draft draft' last : List ℕ} {at boxes : ℕ} {d : Drafted} (r : Result Drafted Refusal)
+    → Drafting lim x draft at boxes (Ok d) draft' → Drafting lim y draft' d.end d.boxes r last → Drafting lim (x ++ y) draft at boxes (further d.groups r) last
 unfolding Told
-drafting_then {lim} {x} {y} TooManyPieces h k = record { told = over-append lim.pieces x y ∙ rw (h.told.0, k.told); count = tt }
-drafting_then {lim} {x} {y} {draft} {draft'} {last} {at} {boxes} {g} {b} {n} (Groups e c m) h k =
+drafting_then {lim} {x} {y} (Err f) h k = record { told = (k.told.0, over-append lim.pieces x y ∙ rw (h.told.0, k.told.1)); count = tt }
+drafting_then {lim} {x} {y} {draft} {draft'} {last} {at} {boxes} {d} (Ok e) h k =
     let sum : length (together (groups_of (x ++ y))) ≡ length (together (groups_of x)) + length (together (groups_of y)) =
     rw (map-append boxes_of x y, together-append (groups_of x) (groups_of y)) (length-append (together (groups_of x)) (together (groups_of y))) in
     let f : groups_bytes (groups_of (x ++ y)) ≡ groups_bytes (groups_of x) ++ groups_bytes (groups_of y) =
@@ -71,14 +73,14 @@ drafting_then {lim} {x} {y} {draft} {draft'} {last} {at} {boxes} {g} {b} {n} (Gr
 
 -- the deny rule at a place, alone
 module _ (lim : Limits) (start allows : List Region) (draft : List ℕ) (at boxes : ℕ) where
-  pub drafting_one_over : (last : List ℕ) → over lim.pieces start allows ≡ true
-      → Drafting lim (anew start allows ∷ []) draft at boxes TooManyPieces last
+  pub drafting_one_over : (last : List ℕ) {f : Refusal} → f ≡ TooManyPieces → over lim.pieces start allows ≡ true
+      → Drafting lim (anew start allows ∷ []) draft at boxes (Err f) last
   unfolding Told any_over over_slot
-  drafting_one_over last h = record { told = rw h; count = tt }
+  drafting_one_over last e h = record { told = (e, rw h); count = tt }
 
   pub drafting_one : (n b end : ℕ) (last : List ℕ) → over lim.pieces start allows ≡ false → n ≡ length (group start allows)
       → b ≡ boxes + n → (b ≤ lim.total → (end ≡ at + length (group_bytes (group start allows))) × (last ≡ sets draft at (group_bytes (group start allows))))
-      → Drafting lim (anew start allows ∷ []) draft at boxes (Groups 1 b end) last
+      → Drafting lim (anew start allows ∷ []) draft at boxes (Ok (record { groups = 1; boxes = b; end = end })) last
   unfolding Told any_over over_slot boxes_of together each_bytes
   drafting_one n b end last h e f g =
       record {

@@ -16,12 +16,13 @@ use Rattle.policy.proofs.Groups.{over_few}
 use Rattle.wire.specs.Numbers.{number_bytes}
 use Rattle.wire.specs.Records.{boxes_bytes, rule_in}
 use Rattle.wire.proofs.Numbers.{number_bytes-length}
-use Rattle.groups.specs.Steps.{start_at, allows_at, worked_of, GroupStands, WorkedFrom, WorkedOut}
-use Rattle.groups.specs.declared.Worked.TheVariants.{Boxes, TooMany}
+use Rattle.groups.specs.Steps.{start_at, allows_at, worked_of, WorkedFrom, WorkedOut}
 use Rattle.sheet.specs.Pairs.{group_size, group_bytes}
 use Rattle.draft.specs.Steps.{Appended, stretch, Drafting, Bounded, Ready, AllReady, DraftedGroups}
 use Rattle.draft.specs.declared.Drafted.{Drafted}
-use Rattle.draft.specs.declared.Drafted.TheVariants.{Groups, TooManyPieces}
+use Rattle.std.specs.Prelude.{Result, Ok, Err}
+use Rattle.policy.specs.declared.Refusal.{Refusal}
+use Rattle.policy.specs.declared.Refusal.TheVariants.{TooManyPieces}
 use Rattle.draft.proofs.Drafts.{drafting_none, drafting_over, further, drafting_then, drafting_one_over, drafting_one, stretch_none, stretch_next, stretch_allow, stretch_deny, rules_sound_front, further_none, further_twice, one_slot}
 
 pub appended_past : (draft : List ℕ) (at boxes n : ℕ) (content : List ℕ) → limits.total < boxes → Appended draft at boxes n content at draft
@@ -39,31 +40,31 @@ appended_in draft at boxes n content y last l h e f =
     }
 
 -- what an answer of the worked-out group says
-over_told : (o : Bool) (m : ℕ) → TooMany ≡ cond o TooMany (Boxes m) → o ≡ true
-over_told true m e = refl
-over_told false m e = let z : ◌≡◌ {A = ℕ} 0 1 = cc in absurd (omega arith)
+err_told : (o : Bool) (f : Refusal) (m : ℕ) → ◌≡◌ {A = Result ℕ Refusal} (Err f) (cond o (Err TooManyPieces) (Ok m)) → (f ≡ TooManyPieces) × (o ≡ true)
+err_told true f m e = (cc, refl)
+err_told false f m e = let z : ◌≡◌ {A = ℕ} 0 1 = cc in absurd (omega arith)
 
-boxes_told : (o : Bool) (n m : ℕ) → Boxes n ≡ cond o TooMany (Boxes m) → (o ≡ false) × (n ≡ m)
-boxes_told true n m e = let z : ◌≡◌ {A = ℕ} 0 1 = cc in absurd (omega arith)
-boxes_told false n m e = (refl, cc)
+ok_told : (o : Bool) (n m : ℕ) → ◌≡◌ {A = Result ℕ Refusal} (Ok n) (cond o (Err TooManyPieces) (Ok m)) → (o ≡ false) × (n ≡ m)
+ok_told true n m e = let z : ◌≡◌ {A = ℕ} 0 1 = cc in absurd (omega arith)
+ok_told false n m e = (refl, cc)
 
 module _ {ds : List Region} {rules : List ℕ} {i : ℕ} {w w' : List ℕ} where
-  pub worked_over : WorkedFrom ds rules i w TooMany w' → over limits.pieces ds (allows_at i rules) ≡ true
+  pub worked_over : {f : Refusal} → WorkedFrom ds rules i w (Err f) w' → (f ≡ TooManyPieces) × (over limits.pieces ds (allows_at i rules) ≡ true)
   unfolding worked_of
-  worked_over x = over_told _ _ x.answer
+  worked_over x = err_told _ _ _ x.answer
 
-  pub worked_boxes : {n : ℕ} → WorkedFrom ds rules i w (Boxes n) w' → (over limits.pieces ds (allows_at i rules) ≡ false) × (n ≡ length (group ds (allows_at i rules)))
+  pub worked_boxes : {n : ℕ} → WorkedFrom ds rules i w (Ok n) w' → (over limits.pieces ds (allows_at i rules) ≡ false) × (n ≡ length (group ds (allows_at i rules)))
   unfolding worked_of
-  worked_boxes x = boxes_told _ _ _ x.answer
+  worked_boxes x = ok_told _ _ _ x.answer
 
-  pub worked_few : {n : ℕ} → length ds ≤ limits.pieces → WorkedFrom ds rules i w (Boxes n) w' → n ≤ limits.pieces
+  pub worked_few : {n : ℕ} → length ds ≤ limits.pieces → WorkedFrom ds rules i w (Ok n) w' → n ≤ limits.pieces
   worked_few h x =
       let z = worked_boxes x in
       let f = over_few limits.pieces ds (allows_at i rules) z.0 h in
       omega arith
 
 module _ (start : Region → List Region) {rules : List ℕ} {i : ℕ} {draft : List ℕ} {at boxes : ℕ} {w : List ℕ} (ready : Ready rules i (i + 1) draft at boxes w) where
-  pub drafted_allow : is_allow (rule_in (drop (record_size * i) rules)) ≡ true → DraftedGroups start rules i (i + 1) draft at boxes w (Groups 0 boxes at) draft w
+  pub drafted_allow : is_allow (rule_in (drop (record_size * i) rules)) ≡ true → DraftedGroups start rules i (i + 1) draft at boxes w (Ok (record { groups = 0; boxes = boxes; end = at })) draft w
   drafted_allow h = record {
     drafting = rw (stretch_allow start rules i h) (drafting_none limits draft at boxes);
     ends = record { short = omega (arith, ready.start.short); few = omega (arith, ready.start.few) };
@@ -71,17 +72,17 @@ module _ (start : Region → List Region) {rules : List ℕ} {i : ℕ} {draft : 
   }
 
   module _ (deny : is_allow (rule_in (drop (record_size * i) rules)) ≡ false) {w' : List ℕ} where
-    pub drafted_over : WorkedOut start rules i w TooMany w' → DraftedGroups start rules i (i + 1) draft at boxes w TooManyPieces draft w'
+    pub drafted_over : {f : Refusal} → WorkedOut start rules i w (Err f) w' → DraftedGroups start rules i (i + 1) draft at boxes w (Err f) draft w'
     drafted_over x = record {
-      drafting = rw (stretch_deny start rules i deny) (drafting_one_over limits (start_at start i rules) (allows_at i rules) draft at boxes draft (worked_over x));
+      drafting = rw (stretch_deny start rules i deny) (drafting_one_over limits (start_at start i rules) (allows_at i rules) draft at boxes draft (worked_over x).0 (worked_over x).1);
       ends = tt;
       beyond = x.beyond;
     }
 
-    pub drafted_boxes : {n end : ℕ} {draft' : List ℕ} → length (start_at start i rules) ≤ limits.pieces → WorkedOut start rules i w (Boxes n) w' → box_size * n ≤ length w'
+    pub drafted_boxes : {n end : ℕ} {draft' : List ℕ} → length (start_at start i rules) ≤ limits.pieces → WorkedOut start rules i w (Ok n) w' → box_size * n ≤ length w'
         → Appended draft at (boxes + n) n (take (box_size * n) w') end draft'
-        → DraftedGroups start rules i (i + 1) draft at boxes w (Groups 1 (boxes + n) end) draft' w'
-    unfolding GroupStands group_bytes
+        → DraftedGroups start rules i (i + 1) draft at boxes w (Ok (record { groups = 1; boxes = boxes + n; end = end })) draft' w'
+    unfolding group_bytes
     drafted_boxes {n} {end} {draft'} h x l a =
         let g : List Region = group (start_at start i rules) (allows_at i rules) in
         let z = worked_boxes x in
@@ -104,19 +105,19 @@ pub record Going (start : Region → List Region) (rules : List ℕ) (from to : 
   pub work_long : length work ≡ length work₀
   pub bounded : Bounded i sum end
   pub beyond : drop work_size work ≡ drop work_size work₀
-  pub onward : (r : Drafted) (last : List ℕ) → Drafting limits (stretch start i to rules) draft end sum r last → Drafting limits (stretch start from to rules) draft₀ 0 boxes (further count r) last
+  pub onward : (r : Result Drafted Refusal) (last : List ℕ) → Drafting limits (stretch start i to rules) draft end sum r last → Drafting limits (stretch start from to rules) draft₀ 0 boxes (further count r) last
 
 module _ {start : Region → List Region} {rules : List ℕ} {from to : ℕ} {draft₀ : List ℕ} {boxes : ℕ} {work₀ : List ℕ} (ready : Ready rules from to draft₀ 0 boxes work₀) where
   pub going_first : Going start rules from to draft₀ boxes work₀ draft₀ work₀ from 0 0 boxes
   going_first = record { up_to = ready.up_to; few = omega arith; long = refl; work_long = refl; bounded = ready.start; beyond = refl; onward = λ r last d. rw (further_none r) d }
 
   module _ {draft work : List ℕ} {i count end sum : ℕ} (g : Going start rules from to draft₀ boxes work₀ draft work i count end sum) where
-    pub going_done : to ≤ i → DraftedGroups start rules from to draft₀ 0 boxes work₀ (Groups count sum end) draft work
+    pub going_done : to ≤ i → DraftedGroups start rules from to draft₀ 0 boxes work₀ (Ok (record { groups = count; boxes = sum; end = end })) draft work
     going_done h =
         let e : i ≡ to = omega (arith, g.up_to) in
         let z : count + 0 ≡ count = omega arith in
         record {
-          drafting = rw z at (g.onward (Groups 0 sum end) draft (rw (← e, stretch_none start rules i) (drafting_none limits draft end sum)));
+          drafting = rw z at (g.onward (Ok (record { groups = 0; boxes = sum; end = end })) draft (rw (← e, stretch_none start rules i) (drafting_none limits draft end sum)));
           ends = rw e at g.bounded;
           beyond = g.beyond;
         }
@@ -133,25 +134,25 @@ module _ {start : Region → List Region} {rules : List ℕ} {from to : ℕ} {dr
         work_room = rw g.work_long ready.work_room;
       }
 
-      pub going_count : {k b e : ℕ} {draft' work' : List ℕ} → DraftedGroups start rules i (i + 1) draft end sum work (Groups k b e) draft' work' → k ≤ 1
+      pub going_count : {d : Drafted} {draft' work' : List ℕ} → DraftedGroups start rules i (i + 1) draft end sum work (Ok d) draft' work' → d.groups ≤ 1
       going_count x = omega (arith, x.drafting.count, one_slot start rules i)
 
-      pub going_next : {k b e : ℕ} {draft' work' : List ℕ} → DraftedGroups start rules i (i + 1) draft end sum work (Groups k b e) draft' work'
-          → length draft' ≡ length draft → length work' ≡ length work → Going start rules from to draft₀ boxes work₀ draft' work' (i + 1) (count + k) e b
-      going_next {k} x l m = record {
+      pub going_next : {d : Drafted} {draft' work' : List ℕ} → DraftedGroups start rules i (i + 1) draft end sum work (Ok d) draft' work'
+          → length draft' ≡ length draft → length work' ≡ length work → Going start rules from to draft₀ boxes work₀ draft' work' (i + 1) (count + d.groups) d.end d.boxes
+      going_next {d} x l m = record {
         up_to = omega arith;
         few = omega (arith, g.few, going_count x);
         long = l ∙ g.long;
         work_long = m ∙ g.work_long;
         bounded = x.ends;
         beyond = x.beyond ∙ g.beyond;
-        onward = λ r last d. rw (further_twice count k r) at (g.onward (further k r) last (rw (stretch_next start rules i to more) (drafting_then r x.drafting d)));
+        onward = λ r last y. rw (further_twice count d.groups r) at (g.onward (further d.groups r) last (rw (stretch_next start rules i to more) (drafting_then r x.drafting y)));
       }
 
-      pub going_over : {draft' work' : List ℕ} → DraftedGroups start rules i (i + 1) draft end sum work TooManyPieces draft' work'
-          → DraftedGroups start rules from to draft₀ 0 boxes work₀ TooManyPieces draft' work'
-      going_over {draft'} x = record {
-        drafting = g.onward TooManyPieces draft' (rw (stretch_next start rules i to more) (drafting_over (stretch start (i + 1) to rules) draft' x.drafting));
+      pub going_over : {f : Refusal} {draft' work' : List ℕ} → DraftedGroups start rules i (i + 1) draft end sum work (Err f) draft' work'
+          → DraftedGroups start rules from to draft₀ 0 boxes work₀ (Err f) draft' work'
+      going_over {f} {draft'} x = record {
+        drafting = g.onward (Err f) draft' (rw (stretch_next start rules i to more) (drafting_over (stretch start (i + 1) to rules) draft' x.drafting));
         ends = tt;
         beyond = x.beyond ∙ g.beyond;
       }

@@ -9,20 +9,16 @@ ghost use Rattle.wire.specs.Numbers.{number_bytes};
 ghost use Rattle.sheet.specs.Pairs.{group_size};
 ghost use Rattle.draft.specs.Steps.{Appended, Ready, AllReady, DraftedGroups, Laid};
 
-use groups::Worked;
-use policy::{BOX_BYTES, COUNT_BYTES, GATE_MOST, RECORD_BYTES, TOTAL_MOST};
+use policy::{BOX_BYTES, COUNT_BYTES, GATE_MOST, RECORD_BYTES, Refusal, TOTAL_MOST};
 
 pub const DRAFT_BYTES: usize = COUNT_BYTES * GATE_MOST + BOX_BYTES * TOTAL_MOST;
 
-// How many groups were worked out, how many boxes there are with those counted before, and where the groups' bytes end; or number 6.
+// How many groups were worked out, how many boxes there are with those counted before, and where the groups' bytes end.
 #[derive(Clone, Copy)]
-pub enum Drafted {
-    Groups {
-        groups: usize,
-        boxes: usize,
-        end: usize,
-    },
-    TooManyPieces,
+pub struct Drafted {
+    pub groups: usize,
+    pub boxes: usize,
+    pub end: usize,
 }
 
 // The group writer: a count and so many boxes at the front of the part that it is lent.
@@ -46,7 +42,7 @@ fn append(draft: &mut [u8], at: usize, boxes: usize, n: usize, content: &[u8]) -
     at + COUNT_BYTES + content.len()
 }
 
-// The group of the rule at place i, if it denies, behind what the draft holds.
+// The group of the rule at place i, if it denies, behind what the draft holds; or number 6.
 fn draft_one(
     rules: &[u8],
     i: usize,
@@ -54,33 +50,30 @@ fn draft_one(
     at: usize,
     boxes: usize,
     work: &mut [u8],
-) -> Drafted
+) -> Result<Drafted, Refusal>
     requires { Ready rules.now i (i + 1) draft.old at boxes work.old }
     ensures { DraftedGroups alone rules.now i (i + 1) draft.old at boxes work.old result draft.new work.new }
 {
     let rule = wire::rule_at(rules, RECORD_BYTES * i);
     if rule.is_allow() {
-        return Drafted::Groups {
+        return Ok(Drafted {
             groups: 0,
             boxes,
             end: at,
-        };
+        });
     }
-    match groups::work_out(rules, i, work) {
-        Worked::TooMany => Drafted::TooManyPieces,
-        Worked::Boxes(n) => {
-            let size = BOX_BYTES * n;
-            let end = append(draft, at, boxes + n, n, &work[..size]);
-            Drafted::Groups {
-                groups: 1,
-                boxes: boxes + n,
-                end,
-            }
-        }
-    }
+    let n = groups::work_out(rules, i, work)?;
+    let size = BOX_BYTES * n;
+    let end = append(draft, at, boxes + n, n, &work[..size]);
+    Ok(Drafted {
+        groups: 1,
+        boxes: boxes + n,
+        end,
+    })
 }
 
-// The groups of the deny rules from one place up to another, at the front of the draft; so many boxes are counted already.
+// The groups of the deny rules from one place up to another, at the front of the draft, where so many boxes are counted already; or
+// number 6.
 pub fn draft_groups(
     rules: &[u8],
     from: usize,
@@ -88,7 +81,7 @@ pub fn draft_groups(
     boxes: usize,
     draft: &mut [u8],
     work: &mut [u8],
-) -> Drafted
+) -> Result<Drafted, Refusal>
     requires { Ready rules.now from to draft.old 0 boxes work.old }
     ensures { DraftedGroups alone rules.now from to draft.old 0 boxes work.old result draft.new work.new }
 {
@@ -97,29 +90,26 @@ pub fn draft_groups(
     let mut end: usize = 0;
     let mut sum = boxes;
     while i < to {
-        match draft_one(rules, i, draft, end, sum, work) {
-            Drafted::TooManyPieces => return Drafted::TooManyPieces,
-            Drafted::Groups {
-                groups: g,
-                boxes: b,
-                end: e,
-            } => {
-                count += g;
-                sum = b;
-                end = e;
-            }
-        }
+        let one = draft_one(rules, i, draft, end, sum, work)?;
+        count += one.groups;
+        sum = one.boxes;
+        end = one.end;
         i += 1;
     }
-    Drafted::Groups {
+    Ok(Drafted {
         groups: count,
         boxes: sum,
         end,
-    }
+    })
 }
 
-// All groups of the list of `gate` rules that begins the bytes, an order sheet's or a pair sheet's.
-pub fn draft_all(s: &[u8], gate: usize, draft: &mut [u8], work: &mut [u8]) -> Drafted
+// All groups of the list of `gate` rules that begins the bytes, an order sheet's or a pair sheet's; or number 6.
+pub fn draft_all(
+    s: &[u8],
+    gate: usize,
+    draft: &mut [u8],
+    work: &mut [u8],
+) -> Result<Drafted, Refusal>
     requires { AllReady s.now gate draft.old work.old }
     ensures { DraftedGroups alone (drop count_size s.now) 0 gate draft.old 0 0 work.old result draft.new work.new }
 {

@@ -7,12 +7,12 @@ use mir.Val.{Fits}
 use mir.Syntax.{w8}
 use lib.ListN.{length, take, drop, get_or, length-append, length-drop}
 use lib.Seq.{drop-drop}
+use Rattle.policy.specs.Refusals.{Answer}
 use Rattle.policy.specs.Fields.{count_size, limits}
 use Rattle.policy.specs.Ranges.{Region}
 use Rattle.policy.specs.Move.{Slot, boxes_of, together, groups_of}
 use Rattle.policy.proofs.Edits.{kept_boxes, kept_over, over-append, together-append}
 use Rattle.lists.proofs.Lists.{map-append}
-use Rattle.policy.specs.declared.Answer.{Answer}
 use Rattle.sheet.specs.Pairs.{groups_bytes, group_bytes}
 use Rattle.sheet.specs.Steps.{groups_from, box_count}
 use Rattle.wire.proofs.Items.{bytes-append}

@@ -1,5 +1,6 @@
 -- What the last step of an edit of A asks for, and what each of its arms gives: 6, 7, or the pair sheet of the new lists and groups.
 -- Assumes nothing.
+use Rattle.std.specs.Prelude.{Ok, Err}
 use mathlib.Core.Path.{◌≡◌, refl, ap, sym, ◌∙◌}
 use mathlib.Core.List.{List, [], ◌++◌, map}
 use mathlib.Core.Bool.{Bool, true, false}
@@ -16,11 +17,9 @@ use Rattle.lists.proofs.Lists.{each_append, each-drop, map-append, append-none}
 use Rattle.policy.specs.Fields.{box_size, count_size, record_size, limits, work_size}
 use Rattle.policy.specs.Ranges.{Region}
 use Rattle.policy.specs.Rules.{Rule, denies, sound}
-use Rattle.policy.specs.Refusals.{rules_refusal}
+use Rattle.policy.specs.Refusals.{Answer, rules_refusal}
 use Rattle.policy.specs.Move.{Slot, alone, kept, boxes_of, together, any_over, work, room, Order, Pair, groups_of}
 use Rattle.policy.proofs.Refused.{list_refusal}
-use Rattle.policy.specs.declared.Answer.{Answer}
-use Rattle.policy.specs.declared.Answer.TheVariants.{Length, Refused}
 use Rattle.policy.specs.declared.Refusal.TheVariants.{TooManyPieces, TooManyBoxes}
 use Rattle.policy.proofs.Numbers.{or_else_zero}
 use Rattle.policy.proofs.Edits.{kept_boxes, kept_over, over-append, together-append, rules_refusal-append, list_accepted}
@@ -183,7 +182,7 @@ module _ {start : Region → List Region} (keeps : Keeps start) {sheet list w : 
 
   module _ {kept : Kept} (before : kept.before ≡ v.earlier) (sized : kept.size ≡ run_size v.earlier groups) (back : kept.behind ≡ v.groups - v.later) {s : List ℕ} where
     settle_six : {w' : List ℕ} → Behind behind (box_count v.earlier groups) D.TooManyPieces s → drop work_size w' ≡ drop work_size w
-        → Regrouped start sheet t list v w (Refused TooManyPieces) sheet w'
+        → Regrouped start sheet t list v w (Err TooManyPieces) sheet w'
     unfolding slotted room work Told
     settle_six {w'} x beyond =
         let over : any_over limits.pieces l ≡ true = over-append limits.pieces (kept_slots 0 v.earlier groups) behind ∙ rw (kept_over limits.pieces (groups_from v.earlier groups)) x.told in
@@ -209,7 +208,7 @@ module _ {start : Region → List Region} (keeps : Keeps start) {sheet list w : 
       own_are : length o.own ≡ own
       own_are = rules_in-length own (drop count_size (drop (list_size gate) order))
 
-      settle_seven : {w' : List ℕ} → limits.total < b + own → drop work_size w' ≡ drop work_size w → Regrouped start sheet t list v w (Refused TooManyBoxes) sheet w'
+      settle_seven : {w' : List ℕ} → limits.total < b + own → drop work_size w' ≡ drop work_size w → Regrouped start sheet t list v w (Err TooManyBoxes) sheet w'
       unfolding slotted room work
       settle_seven {w'} h beyond =
           let u : limits.total < length (together p.groups) + length o.own = omega (arith, boxes_are_lem, own_are) in
@@ -275,7 +274,7 @@ module _ {start : Region → List Region} (keeps : Keeps start) {sheet list w : 
 
         settle_accepted : {w' : List ℕ} (r : ℕ) (sheet' : List ℕ) → drop work_size w' ≡ drop work_size w
             → r ≡ length (with_gate sheet t list kept.size n (take end s)) → sheet' ≡ filled pair_size sheet (with_gate sheet t list kept.size n (take end s))
-            → Regrouped start sheet t list v w (Length r) sheet' w'
+            → Regrouped start sheet t list v w (Ok r) sheet' w'
         unfolding slotted length_of written
         settle_accepted r sheet' beyond e f = record {
           answer = rw (none, e, sheet_is);

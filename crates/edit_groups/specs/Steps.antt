@@ -1,14 +1,12 @@
 -- Which groups an edit of A keeps, how those between them are worked out anew, and what its last step answers and leaves (01, Calls).
 -- Assumes nothing.
-use Rattle.std.specs.Prelude.{◌≡◌, List, [], ◌++◌, map, Bool, true, false, cond, ◌||◌, ℕ, ◌+◌, ◌*◌, ◌≤◌, ◌<◌, length, take, drop}
+use Rattle.std.specs.Prelude.{◌≡◌, List, [], ◌++◌, map, Bool, true, false, cond, ◌||◌, ℕ, ◌+◌, ◌*◌, ◌≤◌, ◌<◌, length, take, drop, Ok, Err}
 use Rattle.lists.specs.Lists.{every}
 use Rattle.policy.specs.Fields.{box_size, count_size, record_size, limits, work_size}
 use Rattle.policy.specs.Ranges.{Region}
 use Rattle.policy.specs.Rules.{Rule, is_allow, sound, denies, any_allow}
-use Rattle.policy.specs.Refusals.{Outcome, unless}
+use Rattle.policy.specs.Refusals.{Answer, Outcome, unless}
 use Rattle.policy.specs.Move.{Slot, kept, groups_of, room, Order, Pair}
-use Rattle.policy.specs.declared.Answer.{Answer}
-use Rattle.policy.specs.declared.Answer.TheVariants.{Length, Refused}
 use Rattle.policy.specs.declared.Refusal.TheVariants as R
 use Rattle.wire.specs.Buffers.{filled}
 use Rattle.wire.specs.Lists.{list_size}
@@ -117,9 +115,9 @@ Settling sheet l list k TooManyPieces made = Unit {0}
 -- What it answers and leaves: 6, 7, or the pair sheet of the new A.
 unfoldable pub Settled : List ℕ → PairLayout → List ℕ → Kept → Drafted → List ℕ → Answer → List ℕ → Type 0
 Settled sheet l list k (Groups g b n) made r sheet' =
-    (limits.total < b + l.order.own → (r ≡ Refused R.TooManyBoxes) × (sheet' ≡ sheet))
-    × (b + l.order.own ≤ limits.total → (r ≡ Length (length (with_gate sheet l list k.size (group_count k g) (take n made)))) × (sheet' ≡ filled pair_size sheet (with_gate sheet l list k.size (group_count k g) (take n made))))
-Settled sheet l list k TooManyPieces made r sheet' = (r ≡ Refused R.TooManyPieces) × (sheet' ≡ sheet)
+    (limits.total < b + l.order.own → (r ≡ Err R.TooManyBoxes) × (sheet' ≡ sheet))
+    × (b + l.order.own ≤ limits.total → (r ≡ Ok (length (with_gate sheet l list k.size (group_count k g) (take n made)))) × (sheet' ≡ filled pair_size sheet (with_gate sheet l list k.size (group_count k g) (take n made))))
+Settled sheet l list k TooManyPieces made r sheet' = (r ≡ Err R.TooManyPieces) × (sheet' ≡ sheet)
 
 -- Where all groups from the place on are worked out anew.
 abbrev pub AllAnew : Around → Type 0

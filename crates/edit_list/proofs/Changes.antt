@@ -1,4 +1,5 @@
 -- What each arm of changing a list gives, and that the bytes are those of the changed list. Assumes nothing.
+use Rattle.std.specs.Prelude.{Ok, Err}
 use mathlib.Core.Path.{◌≡◌, refl, sym, ◌∙◌}
 use mathlib.Core.List.{List, [], ◌++◌}
 use mathlib.Core.Bool.{Bool, true, false, cond}
@@ -14,7 +15,6 @@ use Rattle.policy.specs.Fields.{count_size, record_size, limits}
 use Rattle.policy.specs.Rules.{Rule}
 use Rattle.policy.specs.Refusals.{Outcome, accepted, refused, test, number_of}
 use Rattle.policy.specs.Edit.{Kind, out, put, changed}
-use Rattle.policy.specs.declared.Answer.TheVariants.{Length, Refused}
 use Rattle.policy.specs.declared.Refusal.{Refusal}
 use Rattle.policy.specs.declared.Refusal.TheVariants.{NoPlace, LengthWrong}
 use Rattle.wire.specs.Numbers.{Byte}
@@ -63,7 +63,7 @@ pub changed-length : (i : ℕ) (k : Kind) (l : List Rule) → i + out k ≤ leng
 changed-length i k l h = rw (length-append, length-append, length-take, length-drop, length-drop) (omega arith)
 
 module _ (s : List ℕ) (count place : ℕ) (change : Change) (new out₀ : List ℕ) {taken : ℕ} (taking : taken ≡ taken_by change) (some : taken ≤ count) where
-  pub changed_no_place : count - taken < place → ListChanged (changed_bytes s count place change new) out₀ (Refused NoPlace) out₀
+  pub changed_no_place : count - taken < place → ListChanged (changed_bytes s count place change new) out₀ (Err NoPlace) out₀
   unfolding changed_bytes overlaid length_of
   changed_no_place h =
       let f = lt-leb (place + taken_by change) count (omega arith) in
@@ -73,20 +73,20 @@ module _ (s : List ℕ) (count place : ℕ) (change : Change) (new out₀ : List
     there : leb (place + taken_by change) count ≡ true
     there = le-leb (place + taken_by change) count (omega arith)
 
-    pub changed_short : whole_record change new ≡ false → ListChanged (changed_bytes s count place change new) out₀ (Refused LengthWrong) out₀
+    pub changed_short : whole_record change new ≡ false → ListChanged (changed_bytes s count place change new) out₀ (Err LengthWrong) out₀
     unfolding changed_bytes overlaid length_of
     changed_short h = record { answer = rw (there, h); result = rw (there, h) }
 
     pub changed_done : whole_record change new ≡ true → {put r : ℕ} {out₁ : List ℕ} → put ≡ put_by change
         → r ≡ length (spliced s (count - taken + put) place taken (take (record_size * put) new))
         → out₁ ≡ sets out₀ 0 (spliced s (count - taken + put) place taken (take (record_size * put) new))
-        → ListChanged (changed_bytes s count place change new) out₀ (Length r) out₁
+        → ListChanged (changed_bytes s count place change new) out₀ (Ok r) out₁
     unfolding changed_bytes overlaid length_of
     changed_done h ep er eo = record { answer = rw (there, h, er, ep, taking); result = rw (there, h, eo, ep, taking) }
 
 -- A refused change leaves the buffer alone, and whatever stands behind the two tests is refused with its number.
 pub change_refused : {A : Type 0} (x : Outcome A) (s : List ℕ) (count place : ℕ) (change : Change) (new : List ℕ) {out out' : List ℕ} (f : Refusal)
-    → ListChanged (changed_bytes s count place change new) out (Refused f) out'
+    → ListChanged (changed_bytes s count place change new) out (Err f) out'
     → (test (leb (place + taken_by change) count) 9 (test (whole_record change new) 3 x) ≡ refused (number_of f)) × (out' ≡ out)
 unfolding changed_bytes length_of overlaid
 change_refused x s count place change new {out} {out'} f c =
@@ -118,7 +118,7 @@ spliced-length s count place out new h =
 
 pub change_done : (s : List ℕ) (count place : ℕ) (change : Change) (new : List ℕ) {out out' : List ℕ} {end : ℕ}
     → list_size count ≤ length s → length s + record_size ≤ length out
-    → ListChanged (changed_bytes s count place change new) out (Length end) out' → ChangeDone s count place change new out out' end
+    → ListChanged (changed_bytes s count place change new) out (Ok end) out' → ChangeDone s count place change new out out' end
 unfolding changed_bytes length_of overlaid
 change_done s count place change new {out} {out'} {end} there roomy c =
     let y : List ℕ = new_bytes s count place change new in

@@ -2,9 +2,8 @@
 use Rattle.std.specs.Prelude.{◌≡◌, List, [], ◌++◌, ℕ, ◌+◌, ◌*◌, ◌-◌, leb, eqb, length, take, drop, cond}
 use Rattle.std.proofs.lemmas.List.Edits.{sets}
 use Rattle.policy.specs.Fields.{count_size, record_size, limits}
-use Rattle.policy.specs.Refusals.{Outcome, accepted, refused, test, said}
+use Rattle.policy.specs.Refusals.{Answer, Outcome, accepted, refused, test, said}
 use Rattle.policy.specs.Edit.{out, put}
-use Rattle.policy.specs.declared.Answer.{Answer}
 use Rattle.wire.specs.Numbers.{number_bytes}
 use Rattle.wire.specs.Buffers.{length_of}
 use Rattle.promises.specs.Edits.{kind_of, whole_record}

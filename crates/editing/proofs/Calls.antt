@@ -5,8 +5,8 @@ use mathlib.Core.Bool.{true, false}
 use Prim.Native.Nat.{ℕ, ◌≤◌, ◌<◌}
 use lib.ListN.{length, take}
 use borrow.Author.Tests.{le-leb, lt-leb}
+use Rattle.policy.specs.Refusals.{Answer}
 use Rattle.policy.specs.Fields.{limits, work_size}
-use Rattle.policy.specs.declared.Answer.{Answer}
 use Rattle.sheet.specs.Pairs.{pair_bytes, pair_size}
 use Rattle.wire.specs.Buffers.{room_for}
 use Rattle.promises.specs.Edits.{Asked, edit_lent, edited_of, Edits}

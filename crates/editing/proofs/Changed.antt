@@ -1,4 +1,5 @@
 -- A list of a sheet, changed in another buffer: its bytes are those of the changed list, and what reading them gives. Assumes nothing.
+use Rattle.std.specs.Prelude.{Ok}
 use mathlib.Core.Path.{◌≡◌, ap, sym, ◌∙◌}
 use mathlib.Core.List.{List}
 use Prim.Native.Nat.{ℕ, ◌+◌, ◌≤◌, ◌<◌}
@@ -10,7 +11,6 @@ use Rattle.policy.specs.Rules.{Rule}
 use Rattle.policy.specs.Refusals.{unless}
 use Rattle.policy.proofs.Refused.{list_refusal}
 use Rattle.policy.specs.Edit.{changed}
-use Rattle.policy.specs.declared.Answer.TheVariants.{Length}
 use Rattle.policy.proofs.Answers.{unless_accepted}
 use Rattle.wire.specs.Numbers.{Byte}
 use Rattle.wire.specs.Lists.{list_size, list_bytes}
@@ -34,7 +34,7 @@ pub record ChangedList (l : List Rule) (n most place : ℕ) (change : Change) (n
   pub reads : list_in most (take end out') ≡ unless (list_refusal most (changed place (kind_of change new) l)) (changed place (kind_of change new) l)
 
 pub changed_list : {l : List Rule} {n most place : ℕ} {change : Change} {new out out' : List ℕ} {end : ℕ} → ListFits l → length l ≡ n → n < 65535 → Each Byte new
-    → list_size n + record_size ≤ length out → ListChanged (changed_bytes (list_bytes l) n place change new) out (Length end) out' → ChangedList l n most place change new out out' end
+    → list_size n + record_size ≤ length out → ListChanged (changed_bytes (list_bytes l) n place change new) out (Ok end) out' → ChangedList l n most place change new out out' end
 changed_list {l} {n} {most} {place} {change} {new} {out} {out'} {end} f count small whole roomy x =
     let e = list_bytes-length l f.rules in
     let d : ChangeDone (list_bytes l) n place change new out out' end = change_done (list_bytes l) n place change new (omega arith) (omega arith) x in

@@ -1,4 +1,5 @@
 -- An edit of A, once the new A is made. Assumes nothing.
+use Rattle.std.specs.Prelude.{Ok, Err}
 use mathlib.Core.Path.{◌≡◌, refl, ap, sym, subst, ◌∙◌}
 use mathlib.Core.List.{List, ◌++◌}
 use Prim.Native.Nat.{ℕ, ◌+◌, ◌≤◌, ◌<◌}
@@ -9,11 +10,9 @@ use Rattle.lists.specs.Lists.{Each}
 use Rattle.lists.proofs.Lists.{three-parts}
 use Rattle.policy.specs.Fields.{count_size, record_size, limits, work_size}
 use Rattle.policy.specs.Rules.{Rule, denies}
-use Rattle.policy.specs.Refusals.{refused, number_of}
+use Rattle.policy.specs.Refusals.{Answer, refused, number_of}
 use Rattle.policy.specs.Move.{alone, Order, Pair}
 use Rattle.policy.specs.Edit.{Kind, out, put, front, gone, back, changed, around, new_order, new_slots}
-use Rattle.policy.specs.declared.Answer.{Answer}
-use Rattle.policy.specs.declared.Answer.TheVariants.{Length, Refused}
 use Rattle.policy.specs.declared.Refusal.{Refusal}
 use Rattle.wire.specs.Numbers.{Byte}
 use Rattle.wire.specs.Lists.{list_size, list_bytes}
@@ -111,10 +110,10 @@ module _ (sheet : List ℕ) {l : PairLayout} (a : PairAccepted (take l.end sheet
     gates : revised.ListsKnown o n m
     gates = known sheet a inside
 
-    pub gate_refused : {list list' : List ℕ} (f : Refusal) → ListChanged (changed_bytes (list_bytes o.gate) n place change new) list (Refused f) list' → edited_of limits s q ≡ refused (number_of f)
+    pub gate_refused : {list list' : List ℕ} (f : Refusal) → ListChanged (changed_bytes (list_bytes o.gate) n place change new) list (Err f) list' → edited_of limits s q ≡ refused (number_of f)
     gate_refused f x = revised.revised_refused a r new refl n gates.gate_count (list_bytes o.gate) f x
 
-    module _ {list list' : List ℕ} {end : ℕ} (x : ListChanged (changed_bytes (list_bytes o.gate) n place change new) list (Length end) list') (roomy : gate_size + record_size ≤ length list) where
+    module _ {list list' : List ℕ} {end : ℕ} (x : ListChanged (changed_bytes (list_bytes o.gate) n place change new) list (Ok end) list') (roomy : gate_size + record_size ≤ length list) where
       c : ChangedList o.gate n limits.gate place change new list list' end
       c = let g = a.laid.lists.gate_limit in changed_list gates.gate gates.gate_count (omega arith) whole (omega arith) x
 

@@ -1,5 +1,6 @@
 -- What the code of an edit of either list gives to its proof: the sheet as it was read, the bytes of the record, what changing the
 -- list answered and left, and the new list as it was read. Assumes nothing.
+use Rattle.std.specs.Prelude.{Ok}
 use mathlib.Core.Path.{◌≡◌, refl}
 use mathlib.Core.List.{List}
 use Prim.Native.Nat.{ℕ, ◌-◌, ◌≤◌}
@@ -7,9 +8,8 @@ use mir.Val.{Fits}
 use mir.Syntax.{w8}
 use lib.ListN.{length, take, drop, get_or}
 use Rattle.lists.specs.Lists.{Each}
+use Rattle.policy.specs.Refusals.{Answer}
 use Rattle.policy.specs.Rules.{Rule}
-use Rattle.policy.specs.declared.Answer.{Answer}
-use Rattle.policy.specs.declared.Answer.TheVariants.{Length}
 use Rattle.wire.specs.Numbers.{Byte}
 use Rattle.wire.specs.Lists.{list_bytes}
 use Rattle.wire.proofs.Numbers.{bytes_take}
@@ -49,6 +49,6 @@ module _ {sheet : List ℕ} {l : PairLayout} {work : List ℕ} (ready : Revising
     own_made = made_of (own_bytes_lem sheet sheet_read ready.inside)
 
 pub made_accepted : {sheet new out made : List ℕ} {l : PairLayout} {list : List Rule} {n place end most count next : ℕ} {change : Change} {r : Section}
-    → Made sheet l list n place change new out (Length end) made → ((i : ℕ) → Fits w8 (get_or made i 0)) → ListRead most (take end made) r → r ≡ Rules count next
+    → Made sheet l list n place change new out (Ok end) made → ((i : ℕ) → Fits w8 (get_or made i 0)) → ListRead most (take end made) r → r ≡ Rules count next
     → ListAccepted most (take end made) count next
 made_accepted {made = made} {end = end} m bytes x e = list_accepted x (bytes_take end made (bytes_of made bytes)) _ _ e

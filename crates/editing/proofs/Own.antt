@@ -1,4 +1,5 @@
 -- An edit of B, once the new B is made in the work buffer. Assumes nothing.
+use Rattle.std.specs.Prelude.{Ok, Err}
 use mathlib.Core.Path.{◌≡◌, refl, ap, sym, ◌∙◌}
 use mathlib.Core.List.{List, append_assoc}
 use Prim.Native.Nat.{ℕ, ◌+◌, ◌*◌, ◌-◌, ◌≤◌, ◌<◌}
@@ -13,7 +14,6 @@ use Rattle.policy.specs.Rules.{Rule}
 use Rattle.policy.specs.Refusals.{accepted, refused, unless, given, number_of}
 use Rattle.policy.specs.Move.{room, work, Order, Pair}
 use Rattle.policy.specs.Edit.{changed, new_order}
-use Rattle.policy.specs.declared.Answer.TheVariants.{Length, Refused}
 use Rattle.policy.specs.declared.Refusal.{Refusal}
 use Rattle.policy.proofs.Edits.{kept_boxes, kept_over}
 use Rattle.wire.specs.Numbers.{Byte}
@@ -92,14 +92,14 @@ module _ (sheet : List ℕ) {l : PairLayout} (a : PairAccepted (take l.end sheet
     abbrev p' : Pair
     p' = record { order = new_order (edit_of q) o; groups = p.groups }
 
-    pub own_refused : {w w' : List ℕ} (f : Refusal) → ListChanged (changed_bytes (list_bytes o.own) m place change new) w (Refused f) w'
+    pub own_refused : {w w' : List ℕ} (f : Refusal) → ListChanged (changed_bytes (list_bytes o.own) m place change new) w (Err f) w'
         → (edited_of limits s q ≡ refused (number_of f)) × (drop work_size w' ≡ drop work_size w)
     own_refused f x = (
       revised.revised_refused a r new refl m known.own_count (list_bytes o.own) f x,
       ap (drop work_size) (change_refused {A = ℕ} (accepted 0) (list_bytes o.own) m place change new f x).1,
     )
 
-    module _ {w w' : List ℕ} {end : ℕ} (x : ListChanged (changed_bytes (list_bytes o.own) m place change new) w (Length end) w') (roomy : work_size ≤ length w) where
+    module _ {w w' : List ℕ} {end : ℕ} (x : ListChanged (changed_bytes (list_bytes o.own) m place change new) w (Ok end) w') (roomy : work_size ≤ length w) where
       c : ChangedList o.own m limits.own place change new w w' end
       c = let g = a.laid.lists.own_limit in changed_list known.own known.own_count (omega arith) whole (omega arith) x
 
@@ -153,7 +153,7 @@ module _ (sheet : List ℕ) {l : PairLayout} (a : PairAccepted (take l.end sheet
               rw (gate_bytes_lem sheet a inside, c.bytes, e, ← a.section_bytes) (sym (append_assoc (list_bytes o.gate) (list_bytes l') _))
 
           pub own_done : {sheet' : List ℕ} {k : ℕ} → (k ≡ length (with_own sheet l (take end w'))) × (sheet' ≡ filled pair_size sheet (with_own sheet l (take end w')))
-              → Writes pair_bytes pair_size (edited_of limits s q) sheet w (Length k) sheet' w'
+              → Writes pair_bytes pair_size (edited_of limits s q) sheet w (Ok k) sheet' w'
           unfolding length_of written
           own_done e = record {
             answer = rw (accepted_is, ← pair_is, e.0);

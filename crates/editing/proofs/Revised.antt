@@ -1,5 +1,6 @@
 -- What an edit of either list comes to, once the pair sheet is read: the two tests, what reading the changed list gives, and
 -- then 6 and 7. Assumes nothing.
+use Rattle.std.specs.Prelude.{Err}
 use mathlib.Core.Path.{◌≡◌, sym, subst, ◌∙◌}
 use mathlib.Core.List.{List, ◌++◌}
 use mathlib.Core.Bool.{true, cond, not}
@@ -11,12 +12,10 @@ use borrow.Author.Tests.{le-leb, lt-leb}
 use Rattle.lists.proofs.Lists.{three-parts}
 use Rattle.policy.specs.Fields.{count_size, limits}
 use Rattle.policy.specs.Rules.{Rule, complete}
-use Rattle.policy.specs.Refusals.{refused, test, unless, given, or_else, rules_refusal, number_of}
+use Rattle.policy.specs.Refusals.{Answer, refused, test, unless, given, or_else, rules_refusal, number_of}
 use Rattle.policy.specs.Move.{room, Order, Pair, bad_count}
 use Rattle.policy.proofs.Refused.{list_refusal}
 use Rattle.policy.specs.Edit.{Kind, out, put, front, gone, back, Edit, target, new_list, new_order, new_slots, edited, change_refusal}
-use Rattle.policy.specs.declared.Answer.{Answer}
-use Rattle.policy.specs.declared.Answer.TheVariants.{Refused}
 use Rattle.policy.specs.declared.Refusal.{Refusal}
 use Rattle.policy.proofs.Numbers.{or_else_assoc}
 use Rattle.policy.proofs.Edits.{list_accepted, changed-rules_refusal}
@@ -104,7 +103,7 @@ module _ {s : List ℕ} {l : PairLayout} (a : PairAccepted s l) (r : Request) (n
     unfolding edited_of change_of
     shape = rw (a.reads, there, taken_is change new, counted)
 
-    pub revised_refused : (t : List ℕ) {out out' : List ℕ} (f : Refusal) → ListChanged (changed_bytes t count place change new) out (Refused f) out'
+    pub revised_refused : (t : List ℕ) {out out' : List ℕ} (f : Refusal) → ListChanged (changed_bytes t count place change new) out (Err f) out'
         → edited_of limits s q ≡ refused (number_of f)
     revised_refused t f x = shape ∙ (change_refused (unless (change_refusal limits (edit_of q) p) (edited (edit_of q) p)) t count place change new f x).0
 

@@ -1,7 +1,7 @@
 -- What an edit's inner parts ask for, answer and leave, once everything lent is long enough. Assumes nothing.
 use Rattle.std.specs.Prelude.{List, ℕ, ◌≤◌, length, take}
+use Rattle.policy.specs.Refusals.{Answer}
 use Rattle.policy.specs.Fields.{limits, work_size}
-use Rattle.policy.specs.declared.Answer.{Answer}
 use Rattle.sheet.specs.Pairs.{pair_bytes, pair_size}
 use Rattle.sheet.specs.Steps.{PairRead}
 use Rattle.sheet.specs.declared.PairLayout.{PairLayout}

@@ -1,7 +1,8 @@
 -- Laws of a verdict: it is known from what it says, its place and action are small, and it is the number for C.
 -- Assumes nothing.
 use Rattle.std.proofs.Common.{◌≡◌, ℕ, suc, ◌+◌, ◌*◌, ◌<◌, ◌≤◌, Bool, true, false, cond, eqb, leb, List, [], ◌∷◌, length, take, drop, sym, refl, ap, ◌∙◌, subst, arith, leb-true}
-use Rattle.policy.specs.Fields.{count_size}
+use Rattle.std.specs.Prelude.{Ok, Err, IfOk}
+use Rattle.policy.specs.Fields.{count_size, limits}
 use Rattle.policy.specs.Ranges.{Packet, inside}
 use Rattle.policy.specs.Rules.{Rule, sound}
 use Rattle.policy.specs.Refusals.{refusal_base, Outcome, accepted, refused, test, number_of}
@@ -10,17 +11,17 @@ use Rattle.policy.proofs.Answers.{number_once, test_accepted}
 use Rattle.wire.specs.Numbers.{number_in}
 use Rattle.wire.specs.Records.{rules_in}
 use Rattle.wire.proofs.Records.{sound_action, rules_in-length}
-use Rattle.filter.specs.Lookup.{Hit, hit, look_from, lookup, lookup_number, verdict}
-use Rattle.filter.specs.declared.Verdict.{Verdict}
-use Rattle.filter.specs.declared.Verdict.TheVariants.{Decided, Refused}
+use Rattle.filter.specs.Lookup.{Hit, hit, look_from, lookup, lookup_number, Verdict, verdict}
+use Rattle.filter.specs.declared.Decision.{Decision}
+use Rattle.filter.specs.Steps.{InTotal}
 use Rattle.wire.specs.Lists.{list_size}
 
 -- Two verdicts of one lookup are equal.
 verdict_once : (v w : Verdict) → verdict v ≡ verdict w → v ≡ w
-verdict_once (Decided n a) (Decided m b) e = let g : hit n a ≡ hit m b = cc in (λ i. Decided (g i).place (g i).action)
-verdict_once (Decided n a) (Refused f) e = let z : ◌≡◌ {A = ℕ} 0 1 = cc in absurd (omega arith)
-verdict_once (Refused f) (Decided m b) e = let z : ◌≡◌ {A = ℕ} 0 1 = cc in absurd (omega arith)
-verdict_once (Refused f) (Refused g) e = ap Refused (number_once f g (cc))
+verdict_once (Ok d) (Ok c) e = let g : hit d.place d.action ≡ hit c.place c.action = cc in (λ i. Ok (record { place = (g i).place; action = (g i).action }))
+verdict_once (Ok d) (Err f) e = let z : ◌≡◌ {A = ℕ} 0 1 = cc in absurd (omega arith)
+verdict_once (Err f) (Ok c) e = let z : ◌≡◌ {A = ℕ} 0 1 = cc in absurd (omega arith)
+verdict_once (Err f) (Err g) e = ap Err (number_once f g (cc))
 
 pub lookup_once : (v w : Verdict) {o : Outcome Hit} → verdict v ≡ o → verdict w ≡ o → v ≡ w
 lookup_once v w x y = verdict_once v w (x ∙ sym y)
@@ -58,22 +59,10 @@ lookup_small most p s h e =
     let k = rules_in-length n (drop count_size s) in
     (omega arith, f.1)
 
--- The two cases of a verdict, and their numbers for C.
-module _ (most : ℕ) (p : Packet) (s : List ℕ) (v : Verdict) (says : verdict v ≡ lookup most p s) where
-  module _ (n a : ℕ) (is : v ≡ Decided n a) where
-    decided : lookup most p s ≡ accepted (hit n a)
-    decided = sym says ∙ ap verdict is
-
-    pub decided_small : (n < most) × (a ≤ 1)
-    decided_small = lookup_small most p s (hit n a) decided
-
-    pub decided_number : 2 * n + a ≡ lookup_number (lookup most p s)
-    unfolding lookup_number
-    decided_number = sym (ap lookup_number decided)
-
-  pub refused_number : (f : Refusal) → v ≡ Refused f → refusal_base + number_of f ≡ lookup_number (lookup most p s)
-  unfolding lookup_number
-  refused_number f is = sym (ap lookup_number (sym says ∙ ap verdict is))
+-- What a lookup answers is small.
+pub lookup_in_total : (p : Packet) (s : List ℕ) (v : Verdict) → verdict v ≡ lookup limits.total p s → IfOk v InTotal
+lookup_in_total p s (Ok d) e = lookup_small limits.total p s (hit d.place d.action) (sym e)
+lookup_in_total p s (Err f) e = tt
 
 -- The number for C tells the whole outcome: no two outcomes of lookups have the same.
 pub tells : (n : ℕ) → 2 * n ≤ refusal_base → (o q : Outcome Hit) → ((h : Hit) → o ≡ accepted h → InList n h) → ((h : Hit) → q ≡ accepted h → InList n h)

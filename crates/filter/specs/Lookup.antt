@@ -3,9 +3,8 @@ use Rattle.std.specs.Prelude.{◌≡◌, ℕ, suc, ◌+◌, ◌*◌, ◌^◌, �
 use Rattle.policy.specs.Fields.{count_size}
 use Rattle.policy.specs.Ranges.{Packet, inside}
 use Rattle.policy.specs.Rules.{Rule, sound, Found, found, nothing, first}
-use Rattle.policy.specs.Refusals.{refusal_base, Outcome, accepted, refused, test, rules_refusal, number_of}
-use Rattle.filter.specs.declared.Verdict.{Verdict}
-use Rattle.filter.specs.declared.Verdict.TheVariants.{Decided, Refused}
+use Rattle.policy.specs.Refusals.{refusal_base, Outcome, accepted, refused, test, rules_refusal, Answered, heard}
+use Rattle.filter.specs.declared.Decision.{Decision}
 use Rattle.wire.specs.Lists.{count_in, list_rules, list_size, list_bytes}
 
 -- The rule that decides: its place, from 0, and its action.
@@ -17,9 +16,11 @@ abbrev pub hit : ℕ → ℕ → Hit
 hit n a = record { place = n; action = a }
 
 -- The code's answer: the place and the action of the rule that decides, or the refusal's number.
+abbrev pub Verdict : Type 0
+Verdict = Answered Decision
+
 abbrev pub verdict : Verdict → Outcome Hit
-verdict (Decided place action) = accepted (hit place action)
-verdict (Refused f) = refused (number_of f)
+verdict r = heard (λ d. hit d.place d.action) r
 
 -- One rule after another: 4 if it is bad, whatever the packet is; where it fits, it decides; 5 behind the last.
 unfoldable pub look_from : ℕ → Packet → List Rule → Outcome Hit

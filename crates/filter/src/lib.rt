@@ -1,42 +1,44 @@
 // Whether a box has a packet, and lookup of a packet in list bytes.
 #![tactic(auto)]
 
-ghost use Rattle.std.specs.Prelude.{◌≡◌, ◌≤◌, length, drop};
+ghost use Rattle.std.specs.Prelude.{◌≡◌, ◌≤◌, length, drop, IfOk};
 ghost use Rattle.policy.specs.Fields.{count_size, limits};
-ghost use Rattle.policy.specs.Ranges.{range, within, inside, Whole};
-ghost use Rattle.policy.specs.Values.{packet_of, region_of};
+ghost use Rattle.policy.specs.Ranges.{within, inside, Whole};
+ghost use Rattle.policy.specs.Values.{range_of, packet_of, region_of};
 ghost use Rattle.wire.specs.Records.{rules_in};
 ghost use Rattle.filter.specs.Lookup.{look_from, lookup, lookup_number, verdict};
-ghost use Rattle.filter.specs.Steps.{miss_of};
+ghost use Rattle.filter.specs.Steps.{miss_of, InTotal};
 ghost use Rattle.wire.specs.Lists.{list_size};
 
-use policy::{Box, COUNT_BYTES, FIELDS, Packet, RECORD_BYTES, Refusal, TOTAL_MOST, refused_number};
+use policy::{
+    Box, COUNT_BYTES, FIELDS, Packet, RECORD_BYTES, Range, Refusal, TOTAL_MOST, refused_number,
+};
 use wire::{count_at, rule_at};
 
-// The rule that decides, or the refusal.
+// The rule that decides: its place and its action.
 #[derive(Clone, Copy)]
-pub enum Verdict {
-    Decided { place: usize, action: u32 },
-    Refused(Refusal),
+pub struct Decision {
+    pub place: usize,
+    pub action: u32,
 }
 
+// The rule that decides, or the refusal.
+pub type Verdict = Result<Decision, Refusal>;
+
 // One compare for both ends: what is below low wraps round to the highest numbers.
-pub fn is_within(x: u32, low: u32, high: u32) -> bool
-    requires { low ≤ high }
-    ensures { result ≡ within x (range low high) }
+pub fn is_within(x: u32, r: Range) -> bool
+    requires { r.low ≤ r.high }
+    ensures { result ≡ within x (range_of r) }
 {
-    std::num::wrapping_sub_u32(x, low) <= high - low
+    x.wrapping_sub(r.low) <= r.high - r.low
 }
 
 // 1 for a field outside its range, 0 for one inside it.
-fn miss(x: u32, low: u32, high: u32) -> u32
-    requires { low ≤ high }
-    ensures { (result ≡ miss_of x (range low high)) × (result ≤ 1) }
+fn miss(x: u32, r: Range) -> u32
+    requires { r.low ≤ r.high }
+    ensures { (result ≡ miss_of x (range_of r)) × (result ≤ 1) }
 {
-    if is_within(x, low, high) {
-        return 0;
-    }
-    1
+    !is_within(x, r) as u32
 }
 
 // A box that is not empty has the packet if no field is outside its range. The misses are counted, and none ends the count: so the
@@ -48,7 +50,7 @@ pub fn is_inside(p: Packet, bounds: Box) -> bool
     let values = p.values;
     let mut missed: u32 = 0;
     for k in 0..FIELDS {
-        missed += miss(values[k], bounds.low_at(k), bounds.high_at(k));
+        missed += miss(values[k], bounds.range(k));
     }
     missed == 0
 }
@@ -63,22 +65,19 @@ fn scan(p: Packet, list: &[u8], count: usize) -> Verdict
     'rules: for i in 0..count {
         let r = rule_at(list, COUNT_BYTES + RECORD_BYTES * i);
         if !r.is_sound() {
-            return Verdict::Refused(Refusal::RuleBad);
+            return Err(Refusal::RuleBad);
         }
-        let bounds = r.bounds;
-        let mut k: usize = FIELDS;
-        'fields: while k > 0 {
-            k -= 1;
-            if !is_within(values[k], bounds.low_at(k), bounds.high_at(k)) {
+        'fields: for k in (0..FIELDS).rev() {
+            if !is_within(values[k], r.bounds.range(k)) {
                 continue 'rules;
             }
         }
-        return Verdict::Decided {
+        return Ok(Decision {
             place: i,
             action: r.action,
-        };
+        });
     }
-    Verdict::Refused(Refusal::NotComplete)
+    Err(Refusal::NotComplete)
 }
 
 // A list may have at most so many rules.
@@ -86,17 +85,14 @@ pub fn lookup_within(most: usize, p: Packet, list: &[u8]) -> Verdict
     ensures { verdict result ≡ lookup most (packet_of p) list.now }
 {
     if list.len() < COUNT_BYTES {
-        return Verdict::Refused(Refusal::LengthWrong);
+        return Err(Refusal::LengthWrong);
     }
     let count = count_at(list, 0);
-    if count < 1 {
-        return Verdict::Refused(Refusal::CountOutside);
-    }
-    if most < count {
-        return Verdict::Refused(Refusal::CountOutside);
+    if count < 1 || most < count {
+        return Err(Refusal::CountOutside);
     }
     if list.len() != COUNT_BYTES + RECORD_BYTES * count {
-        return Verdict::Refused(Refusal::LengthWrong);
+        return Err(Refusal::LengthWrong);
     }
     scan(p, list, count)
 }
@@ -107,12 +103,19 @@ pub fn lookup(p: Packet, list: &[u8]) -> Verdict
     lookup_within(TOTAL_MOST, p, list)
 }
 
-// The verdict as one number.
+// A verdict as one number.
+pub fn verdict_number(v: Verdict) -> u32
+    requires { IfOk v InTotal }
+    ensures { result ≡ lookup_number (verdict v) }
+{
+    match v {
+        Ok(decision) => 2 * decision.place as u32 + decision.action,
+        Err(f) => refused_number(f),
+    }
+}
+
 pub fn lookup_number(p: Packet, list: &[u8]) -> u32
     ensures { result ≡ lookup_number (lookup limits.total (packet_of p) list.now) }
 {
-    match lookup(p, list) {
-        Verdict::Decided { place, action } => 2 * (place as u32) + action,
-        Verdict::Refused(f) => refused_number(f),
-    }
+    verdict_number(lookup(p, list))
 }

@@ -1,19 +1,18 @@
 -- An answer and its number: what each case of the code says, and that the number tells the answer. Assumes nothing.
+use Rattle.std.specs.Prelude.{Ok, Err}
 use mathlib.Core.Path.{◌≡◌, ap, sym, subst, ◌∙◌}
 use Prim.Native.Nat.{ℕ, ◌+◌, ◌<◌}
 use native.Mathlib.Omega.{arith}
-use Rattle.policy.specs.Refusals.{refusal_base, Outcome, accepted, refused, number_of, said}
-use Rattle.policy.specs.declared.Answer.{Answer}
-use Rattle.policy.specs.declared.Answer.TheVariants.{Length, Refused}
+use Rattle.policy.specs.Refusals.{Answer, refusal_base, Outcome, accepted, refused, number_of, said}
 use Rattle.policy.specs.declared.Refusal.{Refusal}
 use Rattle.policy.proofs.Answers.{said_once}
 use Rattle.foldplover.specs.Coded.{coded, Plain, Coded}
 
 module _ (a : Answer) where
-  pub length_small : Plain (said a) → (n : ℕ) → a ≡ Length n → n < refusal_base
+  pub length_small : Plain (said a) → (n : ℕ) → a ≡ Ok n → n < refusal_base
   length_small h n e = subst (λ (q : Answer). Plain (said q)) e h
 
-  pub refused_number : (f : Refusal) → a ≡ Refused f → refusal_base + number_of f ≡ coded (said a)
+  pub refused_number : (f : Refusal) → a ≡ Err f → refusal_base + number_of f ≡ coded (said a)
   refused_number f e = sym (ap (λ (q : Answer). coded (said q)) e)
 
 -- The number tells the outcome: no two have the same.

@@ -1,5 +1,6 @@
 -- What each call below answers is below every refusal's number: a length is that of what was written, and that is within the
 -- size that the call asks for. Assumes nothing.
+use Rattle.std.specs.Prelude.{Ok, Err}
 use mathlib.Core.Path.{◌≡◌, refl, ap, sym, subst, ◌∙◌}
 use mathlib.Core.List.{List}
 use mathlib.Core.Bool.{Bool, ◌&&◌}
@@ -11,10 +12,8 @@ use borrow.Author.Tests.{leb-true}
 use Rattle.lists.proofs.Tests.{and_true}
 use Rattle.policy.specs.Fields.{limits, record_size, work_size}
 use Rattle.policy.specs.Ranges.{Packet}
-use Rattle.policy.specs.Refusals.{refusal_base, Outcome, accepted, refused, test, said}
+use Rattle.policy.specs.Refusals.{Answer, refusal_base, Outcome, accepted, refused, test, said}
 use Rattle.policy.specs.Move.{Order}
-use Rattle.policy.specs.declared.Answer.{Answer}
-use Rattle.policy.specs.declared.Answer.TheVariants.{Length, Refused}
 use Rattle.policy.proofs.Answers.{test_accepted}
 use Rattle.records.specs.Calls.{reading_of, writing_of, RecordRead, RecordWritten}
 use Rattle.wire.specs.Buffers.{room_for, answered, written, length_of}
@@ -34,8 +33,8 @@ use Rattle.wire.specs.Lists.{list_bytes}
 pub call_plain :
     {A : Type 0} (bytes : A → List ℕ) (size : ℕ) (b : Bool) (x : Outcome A) (out : List ℕ) {w out' w' : List ℕ} (q : Answer)
     → Call bytes size (room_for size out && b) x out w q out' w' → length out' ≡ length out → size < refusal_base → Plain (said q)
-call_plain bytes size b x out (Length n) c e h = let k = call_length bytes size b x out c e n refl in omega arith
-call_plain bytes size b x out (Refused f) c e h = tt
+call_plain bytes size b x out (Ok n) c e h = let k = call_length bytes size b x out c e n refl in omega arith
+call_plain bytes size b x out (Err f) c e h = tt
 
 -- Check and the record calls, which answer a fixed number.
 answered_plain : {A : Type 0} (n : ℕ) → n < refusal_base → (x : Outcome A) → Plain (answered n x)

@@ -1,7 +1,6 @@
 -- The one number that C gets for an answer. Assumes nothing.
 use Rattle.std.specs.Prelude.{◌≡◌, ℕ, ◌+◌, ◌<◌}
-use Rattle.policy.specs.Refusals.{refusal_base, Outcome, accepted, refused, said}
-use Rattle.policy.specs.declared.Answer.{Answer}
+use Rattle.policy.specs.Refusals.{Answer, refusal_base, Outcome, accepted, refused, said}
 
 -- A value as it stands; a refusal as 65,536 and its number.
 abbrev pub coded : Outcome ℕ → ℕ

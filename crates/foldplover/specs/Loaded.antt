@@ -1,12 +1,10 @@
 -- What two filters do that have loaded what the calls write, by the firmware's own lookup (01, Calls; demand 2), and what origin says of
 -- it. Assumes nothing.
-use Rattle.std.specs.Prelude.{◌≡◌, List, Bool, true, ◌&&◌, ℕ, ◌-◌, ◌%◌, ltb, eqb, length, take}
+use Rattle.std.specs.Prelude.{◌≡◌, List, Bool, true, ◌&&◌, ℕ, ◌-◌, ◌%◌, ltb, eqb, length, take, Ok}
 use Rattle.lists.specs.Lists.{Each}
 use Rattle.policy.specs.Fields.{limits}
 use Rattle.policy.specs.Ranges.{Packet}
-use Rattle.policy.specs.Refusals.{refusal_base}
-use Rattle.policy.specs.declared.Answer.{Answer}
-use Rattle.policy.specs.declared.Answer.TheVariants.{Length}
+use Rattle.policy.specs.Refusals.{Answer, refusal_base}
 use Rattle.wire.specs.Numbers.{Byte}
 use Rattle.filter.specs.Lookup.{lookup, lookup_number}
 use Rattle.orders.specs.Split.{Split}
@@ -28,7 +26,7 @@ pub record Wrote (statement : List ℕ → List ℕ → Answer → List ℕ → 
   pub left : List ℕ
   pub work' : List ℕ
   pub answer : ℕ
-  pub call : statement out work (Length answer) left work'
+  pub call : statement out work (Ok answer) left work'
   pub is : take answer left ≡ content
 
 -- An accepted split call of the order sheet s wrote these two lists.
@@ -38,7 +36,7 @@ pub record SplitInto (s a b : List ℕ) : Type 0 where
   pub left_a : List ℕ
   pub left_b : List ℕ
   pub answer : ℕ
-  pub call : Split s out_a out_b (Length answer) left_a left_b
+  pub call : Split s out_a out_b (Ok answer) left_a left_b
   pub content_a : take answer left_a ≡ a
   pub content_b : take (length s - answer) left_b ≡ b
 

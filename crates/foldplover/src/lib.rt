@@ -27,8 +27,8 @@ fn answer_number(a: Answer) -> u32
     ensures { result ≡ coded (said a) }
 {
     match a {
-        Answer::Length(n) => n as u32,
-        Answer::Refused(f) => refused_number(f),
+        Ok(n) => n as u32,
+        Err(f) => refused_number(f),
     }
 }
 
@@ -65,13 +65,12 @@ pub fn foldplover_delete(
 ) -> u32
     ensures { Coded (λ q. Edits sheet.old used (asked (request which place Delete) []) work.old q sheet.new work.new) result }
 {
-    let none = [0u8; 0];
     let request = Request {
         which,
         place,
         change: Change::Delete,
     };
-    answer_number(editing::edit(sheet, used, request, &none, work))
+    answer_number(editing::edit(sheet, used, request, &[], work))
 }
 
 pub fn foldplover_replace(

@@ -14,7 +14,6 @@ use Rattle.policy.specs.Ranges.{Range, range, Region}
 use Rattle.policy.specs.Values.{region_of}
 use Rattle.policy.specs.Steps.{range_at, part_below, part_above}
 use Rattle.policy.specs.Cut.{share, shared, cut}
-use Rattle.policy.proofs.Values.{range_read}
 use Rattle.policy.proofs.Rest.{rest, rest_all, rest_field, rest_done}
 use Rattle.wire.specs.Records.{box_bytes}
 use Rattle.groups.specs.Steps.{capacity, stored_most, Stored, LaterStand, CutAt, FieldCut}
@@ -23,6 +22,9 @@ use Rattle.groups.specs.declared.Underway.{Underway}
 use Rattle.groups.proofs.Stores.{length-store, take-store, stored_then, stored_none}
 use Rattle.groups.proofs.Pieces.{bytes_alike}
 use Rattle.groups.proofs.Parts.{later_own, later_kept}
+
+range_read : (b : Region) (k : ℕ) {l h : ℕ} → l ≡ (range_at b k).low → h ≡ (range_at b k).high → range l h ≡ range_at b k
+range_read b k low high = λ i. range (low i) (high i)
 
 -- The parts of a field, as lists of one box or none.
 module _ (b : Region) (k x : ℕ) where

@@ -15,7 +15,8 @@ use Rattle.wire.specs.Records.{box_bytes, box_in, boxes_bytes, boxes_in, rule_in
 use Rattle.wire.proofs.Records.{boxes_bytes-length, boxes_back}
 use Rattle.policy.specs.Move.{alone}
 use Rattle.groups.specs.Steps.{start_at, WorkedFrom, capacity, Started}
-use Rattle.groups.specs.declared.Worked.{Worked}
+use Rattle.std.specs.Prelude.{Result}
+use Rattle.policy.specs.declared.Refusal.{Refusal}
 use Rattle.groups.proofs.Pieces.{proper_all}
 use Rattle.groups.proofs.Works.{proper_at}
 
@@ -45,6 +46,6 @@ started_alone rules i b h e room f =
     started (start_at alone i rules) (proper_at (i + 1) rules i h (omega arith) refl, tt) (omega arith) room (f ∙ rw (e, append-nil) refl)
 
 -- What is worked out of the pieces that stand there is worked out of the start.
-pub worked_from : {start : List Region} {work work₁ work₂ : List ℕ} {n : ℕ} {rules : List ℕ} {i : ℕ} {r : Worked} → Started start work n work₁
+pub worked_from : {start : List Region} {work work₁ work₂ : List ℕ} {n : ℕ} {rules : List ℕ} {i : ℕ} {r : Result ℕ Refusal} → Started start work n work₁
     → WorkedFrom (boxes_in n work₁) rules i work₁ r work₂ → WorkedFrom start rules i work r work₂
 worked_from s w = record { answer = rw s.pieces at w.answer; boxes = rw s.pieces at w.boxes; beyond = w.beyond ∙ s.beyond }

@@ -18,8 +18,9 @@ use Rattle.policy.specs.Move.{over}
 use Rattle.policy.proofs.Moves.{rule_proper}
 use Rattle.wire.specs.Records.{boxes_bytes, boxes_in, rule_in, rules_in}
 use Rattle.wire.proofs.Records.{boxes_in-length, rules_in-length, rule_in_place}
-use Rattle.groups.specs.Steps.{allows_at, worked_of, GroupStands, WorkedFrom, capacity, Stands, Taken}
-use Rattle.groups.specs.declared.Worked.TheVariants.{Boxes, TooMany}
+use Rattle.groups.specs.Steps.{allows_at, worked_of, WorkedFrom, capacity, Stands, Taken}
+use Rattle.std.specs.Prelude.{Ok, Err}
+use Rattle.policy.specs.declared.Refusal.TheVariants.{TooManyPieces}
 use Rattle.groups.proofs.Taken.{cut_each-proper}
 
 pub proper_at : (n : ℕ) (rules : List ℕ) (j : ℕ) {r : Rule} → every sound (rules_in n rules) ≡ true → j < n → r ≡ rule_in (drop (record_size * j) rules) → Proper r.region
@@ -80,14 +81,13 @@ module _ {half : ℕ} {start : List Region} {work₀ rules : List ℕ} {i : ℕ}
     module _ (h : is_allow r ≡ true) {work' : List ℕ} {m : ℕ} (k : Taken half work n r.region work' m) where
       -- More than number 6 allows are left.
       module _ (q : capacity < m) where
-        answered_over : TooMany ≡ worked_of limits start (allows_at i rules)
+        answered_over : Err TooManyPieces ≡ worked_of limits start (allows_at i rules)
         unfolding over worked_of
         answered_over =
             let o : over capacity (boxes_in n work) (allows_in (drop j (rules_in i rules))) ≡ true = rw (left_allow rules i j t e h, lt-ltb capacity (length (cut_each (boxes_in n work) r.region)) (omega (arith, k.count))) in
             rw (← g.number, o)
 
-        pub working_over : half + half ≡ work_size → WorkedFrom start rules i work₀ TooMany work'
-        unfolding GroupStands
+        pub working_over : half + half ≡ work_size → WorkedFrom start rules i work₀ (Err TooManyPieces) work'
         working_over x = record { answer = answered_over; boxes = tt; beyond = rw x at (k.beyond ∙ g.beyond) }
 
       pub working_next : m ≤ capacity → Proper r.region → length work' ≡ length work → Working half start work₀ rules i work' m (j + 1)
@@ -118,14 +118,13 @@ module _ {half : ℕ} {start : List Region} {work₀ rules : List ℕ} {i : ℕ}
     unfolding group allows_in
     group_stands = rw none_left at g.boxes
 
-    answered : Boxes n ≡ worked_of limits start (allows_at i rules)
+    answered : Ok n ≡ worked_of limits start (allows_at i rules)
     unfolding over worked_of allows_in
     answered =
         let o : over capacity start (allows_at i rules) ≡ false = sym g.number ∙ rw none_left in
         rw (o, ← group_stands, boxes_in-length)
 
-    pub working_done : half + half ≡ work_size → WorkedFrom start rules i work₀ (Boxes n) work
-    unfolding GroupStands
+    pub working_done : half + half ≡ work_size → WorkedFrom start rules i work₀ (Ok n) work
     working_done e = record {
       answer = answered;
       boxes = g.stands.written ∙ ap boxes_bytes group_stands;

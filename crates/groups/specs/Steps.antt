@@ -1,18 +1,18 @@
 -- The group of a deny rule, worked out in the work buffer (01, Cutting one box from another and number 6), and pieces on the way
 -- to it, as they lie there. Assumes nothing.
-use Rattle.std.specs.Prelude.{◌≡◌, List, [], ◌∷◌, ◌++◌, true, cond, ℕ, ◌*◌, ◌+◌, ◌<◌, ◌≤◌, length, take, drop, set, ltb}
+use Rattle.std.specs.Prelude.{◌≡◌, List, [], ◌∷◌, ◌++◌, true, cond, ℕ, ◌*◌, ◌+◌, ◌<◌, ◌≤◌, length, take, drop, set, ltb, Result, Ok, Err, IfOk}
 use Rattle.policy.specs.Fields.{fields, widths, size_of, box_size, record_size, Limits, limits, work_size}
 use Rattle.policy.specs.Ranges.{range, Region}
 use Rattle.policy.specs.Values.{region_of}
 use Rattle.policy.specs.Steps.{range_at, part_below, part_above}
 use Rattle.policy.specs.Cut.{shared, group, cut_each}
 use Rattle.policy.specs.Move.{over}
+use Rattle.policy.specs.declared.Refusal.{Refusal}
+use Rattle.policy.specs.declared.Refusal.TheVariants.{TooManyPieces}
 use Rattle.policy.specs.Rules.{sound, allows_in, Proper}
 use Rattle.wire.specs.Records.{ranges_bytes, boxes_bytes, rule_in, rules_in, box_bytes, boxes_in}
 use Rattle.groups.specs.declared.Ends.{Ends}
 use Rattle.groups.specs.declared.Underway.{Underway}
-use Rattle.groups.specs.declared.Worked.{Worked}
-use Rattle.groups.specs.declared.Worked.TheVariants.{Boxes, TooMany}
 use Rattle.std.proofs.lemmas.List.Edits.{sets}
 use Rattle.lists.specs.Lists.{Each, every}
 
@@ -24,21 +24,20 @@ abbrev pub allows_at : ℕ → List ℕ → List Region
 allows_at i s = allows_in (rules_in i s)
 
 -- Number 6, or how many boxes the group has.
-unfoldable pub worked_of : Limits → List Region → List Region → Worked
-worked_of lim start allows = cond (over lim.pieces start allows) TooMany (Boxes (length (group start allows)))
+unfoldable pub worked_of : Limits → List Region → List Region → Result ℕ Refusal
+worked_of lim start allows = cond (over lim.pieces start allows) (Err TooManyPieces) (Ok (length (group start allows)))
 
 -- The bytes that the answer speaks of: those of the group's boxes, where it has one.
-unfoldable pub GroupStands : List Region → List ℕ → Worked → Type 0
-GroupStands g work (Boxes n) = take (box_size * n) work ≡ boxes_bytes g
-GroupStands g work TooMany = Unit {0}
+abbrev pub GroupStands : List Region → List ℕ → Result ℕ Refusal → Type 0
+GroupStands g work r = IfOk r (λ n. take (box_size * n) work ≡ boxes_bytes g)
 
 -- What is worked out of a start, whatever it is, and the allows before place i; and of the start of the deny rule there.
-pub record WorkedFrom (start : List Region) (rules : List ℕ) (i : ℕ) (work : List ℕ) (r : Worked) (work' : List ℕ) : Type 0 where
+pub record WorkedFrom (start : List Region) (rules : List ℕ) (i : ℕ) (work : List ℕ) (r : Result ℕ Refusal) (work' : List ℕ) : Type 0 where
   pub answer : r ≡ worked_of limits start (allows_at i rules)
   pub boxes : GroupStands (group start (allows_at i rules)) work' r
   pub beyond : drop work_size work' ≡ drop work_size work
 
-abbrev pub WorkedOut : (Region → List Region) → List ℕ → ℕ → List ℕ → Worked → List ℕ → Type 0
+abbrev pub WorkedOut : (Region → List Region) → List ℕ → ℕ → List ℕ → Result ℕ Refusal → List ℕ → Type 0
 WorkedOut start rules i work r work' = WorkedFrom (start_at start i rules) rules i work r work'
 
 -- The rule at place i and those before it are there and sound, and the work buffer has both halves.

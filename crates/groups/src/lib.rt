@@ -13,18 +13,11 @@ ghost use Rattle.policy.specs.Move.{alone};
 ghost use Rattle.wire.specs.Records.{box_bytes, box_in, boxes_in};
 ghost use Rattle.groups.specs.Steps.{start_at, Workable, WorkedFrom, WorkedOut, capacity, stored_most, Stored, LaterStand, CutAt, FieldCut, Stands, Started, Untouched, Taken};
 
-use policy::{BOX_BYTES, Box, FIELDS, PIECES_MOST, RECORD_BYTES};
+use policy::{BOX_BYTES, Box, FIELDS, PIECES_MOST, RECORD_BYTES, Range, Refusal};
 
 pub const WORK_BYTES: usize = 2 * PIECES_MOST * BOX_BYTES;
 
 const HALF_BYTES: usize = PIECES_MOST * BOX_BYTES;
-
-// How many boxes the group has, which then stand at the front of the work buffer; or more pieces than number 6 allows.
-#[derive(Clone, Copy)]
-pub enum Worked {
-    Boxes(usize),
-    TooMany,
-}
 
 fn larger(x: u32, y: u32) -> u32
     ensures { result ≡ max x y }
@@ -146,7 +139,11 @@ fn cut_field(
         stored: below,
     };
     let stored = store_high(work, half, at, after_low, k, ends);
-    let rest = rest.narrow(k, larger(ends.low, ends.from), smaller(ends.high, ends.to));
+    let both = Range {
+        low: larger(ends.low, ends.from),
+        high: smaller(ends.high, ends.to),
+    };
+    let rest = rest.narrow(k, both);
     Underway { rest, stored }
 }
 
@@ -159,22 +156,20 @@ fn cut_box(work: &mut [u8], half: usize, n: usize, at: usize, d: Box, a: Box) ->
     let mut done = Underway { rest: d, stored: n };
     let mut k: usize = 0;
     while k < FIELDS {
-        let low = d.low_at(k);
-        let high = d.high_at(k);
-        let from = a.low_at(k);
-        let to = a.high_at(k);
+        let own = d.range(k);
+        let other = a.range(k);
         let ends = Ends {
-            low,
-            high,
-            from,
-            to,
+            low: own.low,
+            high: own.high,
+            from: other.low,
+            to: other.high,
         };
         // A field that lies in the allow's gives no part. Two calls and not one, so that the compiler unrolls this loop before it puts
         // `cut_field` into it.
-        if low < from {
+        if own.low < other.low {
             done = cut_field(work, half, at, done, k, ends);
         } else {
-            if to < high {
+            if other.high < own.high {
                 done = cut_field(work, half, at, done, k, ends);
             }
         }
@@ -252,8 +247,9 @@ fn put_start(rules: &[u8], i: usize, work: &mut [u8]) -> usize
     1
 }
 
-// Every allow before place i taken from the pieces, so many, that stand at the front of the work buffer.
-fn take_allows(rules: &[u8], i: usize, pieces: usize, work: &mut [u8]) -> Worked
+// Every allow before place i taken from the pieces, so many, that stand at the front of the work buffer: how many boxes then stand
+// there; or number 6.
+fn take_allows(rules: &[u8], i: usize, pieces: usize, work: &mut [u8]) -> Result<usize, Refusal>
     requires { Workable rules.now i work.old × (pieces ≤ capacity) × Stands pieces work.old }
     ensures { WorkedFrom (boxes_in pieces work.old) rules.now i work.old result work.new }
 {
@@ -264,16 +260,17 @@ fn take_allows(rules: &[u8], i: usize, pieces: usize, work: &mut [u8]) -> Worked
         if rule.is_allow() {
             n = take_allow(work, HALF_BYTES, n, rule.bounds);
             if PIECES_MOST < n {
-                return Worked::TooMany;
+                return Err(Refusal::TooManyPieces);
             }
         }
         j += 1;
     }
-    Worked::Boxes(n)
+    Ok(n)
 }
 
-// The group of the deny rule at place i of the records.
-pub fn work_out(rules: &[u8], i: usize, work: &mut [u8]) -> Worked
+// The group of the deny rule at place i of the records: how many boxes it has, which then stand at the front of the work buffer; or
+// number 6.
+pub fn work_out(rules: &[u8], i: usize, work: &mut [u8]) -> Result<usize, Refusal>
     requires { Workable rules.now i work.old }
     ensures { WorkedOut alone rules.now i work.old result work.new }
 {

@@ -1,4 +1,5 @@
 -- What the writing of the cell list and of the gate list leaves, and what it makes of a list call. Assumes nothing.
+use Rattle.std.specs.Prelude.{Ok, Err}
 use mathlib.Core.Path.{◌≡◌, refl, ap, sym, ◌∙◌}
 use mathlib.Core.List.{List, [], ◌∷◌, ◌++◌}
 use mathlib.Core.Bool.{Bool, true}
@@ -14,7 +15,6 @@ use Rattle.policy.specs.Ranges.{Region}
 use Rattle.policy.specs.Rules.{Rule, rule, full}
 use Rattle.policy.specs.Refusals.{accepted}
 use Rattle.policy.specs.Move.{together, denials, Pair, gate_list}
-use Rattle.policy.specs.declared.Answer.TheVariants.{Length, Refused}
 use Rattle.policy.specs.declared.Refusal.{Refusal}
 use Rattle.wire.specs.Numbers.{number_bytes, Byte}
 use Rattle.wire.specs.Records.{box_in, record_bytes, records_bytes, each_bytes, each_in}
@@ -212,12 +212,12 @@ gate_put p list c₁ last r h e f g =
 
 -- A list call once its buffers are long enough: what the check came to, and the list.
 module _ (bytes : Pair → List ℕ) (size : ℕ) (lent : Bool) (s out w : List ℕ) (h : lent ≡ true) {w' : List ℕ} (e : w' ≡ zeroed 0 work_size w) where
-  pub list_refused : {f : Refusal} → CheckRead s (P.Refused f) → Call bytes size lent (check_of limits s) out w (Refused f) out w'
+  pub list_refused : {f : Refusal} → CheckRead s (P.Err f) → Call bytes size lent (check_of limits s) out w (Err f) out w'
   unfolding pair_heard
   list_refused {f} x = call_done bytes size lent (check_of limits s) out w h (refuses bytes size (check_of limits s) out w w f (sym x.says) refl) e
 
   pub list_written : {l : PairLayout} {r : ℕ} {out' : List ℕ} → CheckRead s (P.Parts l) → ListPut (bytes (pair_at l s)) size out r out'
-      → Call bytes size lent (check_of limits s) out w (Length r) out' w'
+      → Call bytes size lent (check_of limits s) out w (Ok r) out' w'
   unfolding pair_heard length_of written
   list_written x y =
       call_done bytes size lent (check_of limits s) out w h

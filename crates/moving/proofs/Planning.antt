@@ -1,4 +1,5 @@
 -- What each arm of a move gives: what reading refuses, 6, 7, or the pair sheet of the lists and their groups. Assumes nothing.
+use Rattle.std.specs.Prelude.{Ok, Err}
 use mathlib.Core.Path.{◌≡◌, refl, ap, sym, ◌∙◌}
 use mathlib.Core.List.{List, [], ◌++◌}
 use mathlib.Core.Bool.{true, false}
@@ -13,7 +14,6 @@ use Rattle.lists.proofs.Lists.{sets-append}
 use Rattle.policy.specs.Fields.{count_size, limits, work_size}
 use Rattle.policy.specs.Rules.{allows_in}
 use Rattle.policy.specs.Move.{Slot, slots_of, start_of, alone, boxes_of, together, any_over, work, room, Order, moved, groups_of}
-use Rattle.policy.specs.declared.Answer.TheVariants.{Length, Refused}
 use Rattle.policy.specs.declared.Refusal.{Refusal}
 use Rattle.policy.specs.declared.Refusal.TheVariants.{TooManyPieces, TooManyBoxes}
 use Rattle.policy.proofs.Refused.{list_refusal, move_refusal}
@@ -61,7 +61,7 @@ pair_put {s} {order} {draft} {n} h c₁ c₂ c₃ last at end e₁ e₂ e₃ ee 
     sym (p₁ ∙ p₂) ∙ sets-eq content s 0 (omega (arith, h.fits, h.room, e₁.0)) ∙ rw (lc, z, take_all end content (omega arith)) in
     (sym lc, filled_is content s c₃ last end pair_size (sym lc) (omega (arith, h.fits, e₁.0)) h.room q el)
 
-pub plan_refused : {s : List ℕ} {r : OrderParts} → OrderRead s r → {f : Refusal} → r ≡ O.Refused f → {out w : List ℕ} → Planned s out w (Refused f) out w
+pub plan_refused : {s : List ℕ} {r : OrderParts} → OrderRead s r → {f : Refusal} → r ≡ O.Err f → {out w : List ℕ} → Planned s out w (Err f) out w
 unfolding move_of
 plan_refused x {f} e {out} {w} = refuses pair_bytes pair_size _ out w w f (rw (order_refused x f e)) refl
 
@@ -97,7 +97,7 @@ module _ {s : List ℕ} {l : OrderLayout} {parts : OrderParts} (heard : OrderRea
   own_are = rules_in-length l.own (drop count_size (drop l.middle s))
 
   module _ {draft draft' w w' : List ℕ} (roomy : draft_size ≤ length draft) {r : Drafted} (x : DraftedGroups alone (drop count_size s) 0 l.gate draft 0 0 w r draft' w') where
-    pub plan_six : r ≡ D.TooManyPieces → {sheet : List ℕ} → Planned s sheet w (Refused TooManyPieces) sheet w'
+    pub plan_six : r ≡ D.TooManyPieces → {sheet : List ℕ} → Planned s sheet w (Err TooManyPieces) sheet w'
     unfolding plan_of room work
     plan_six e {sheet} =
         let over : any_over limits.pieces all ≡ true = drawn_over (rw (all_anew, e) at x.drafting) in
@@ -113,7 +113,7 @@ module _ {s : List ℕ} {l : OrderLayout} {parts : OrderParts} (heard : OrderRea
       boxes_are_lem : b ≡ length (together (moved o).groups)
       boxes_are_lem = let e = drawn_boxes drafting in omega arith
 
-      pub plan_seven : limits.total < b + l.own → {sheet : List ℕ} → Planned s sheet w (Refused TooManyBoxes) sheet w'
+      pub plan_seven : limits.total < b + l.own → {sheet : List ℕ} → Planned s sheet w (Err TooManyBoxes) sheet w'
       unfolding plan_of room work
       plan_seven h {sheet} =
           let t : limits.total < length (together (moved o).groups) + length o.own = omega (arith, boxes_are_lem, own_are) in
@@ -162,7 +162,7 @@ module _ {s : List ℕ} {l : OrderLayout} {parts : OrderParts} (heard : OrderRea
 
         pub plan_accepted : {sheet sheet' : List ℕ} (r : ℕ)
             → (r ≡ length (sheet_of s g (take n draft'))) × (sheet' ≡ filled pair_size sheet (sheet_of s g (take n draft')))
-            → Planned s sheet w (Length r) sheet' w'
+            → Planned s sheet w (Ok r) sheet' w'
         unfolding plan_of length_of written
         plan_accepted r e = record {
           answer = rw (planned, none, e.0, sheet_is);

@@ -1,7 +1,7 @@
 -- What the inner parts of move answer and leave, once everything lent is long enough. Assumes nothing.
 use Rattle.std.specs.Prelude.{List, ℕ, ◌+◌, ◌≤◌, ◌<◌, length}
+use Rattle.policy.specs.Refusals.{Answer}
 use Rattle.policy.specs.Fields.{count_size, limits}
-use Rattle.policy.specs.declared.Answer.{Answer}
 use Rattle.sheet.specs.Pairs.{pair_bytes, pair_size}
 use Rattle.draft.specs.Steps.{Laid}
 use Rattle.promises.specs.Calls.{move_of}

@@ -1,4 +1,5 @@
 -- Join: what each return of the code says, and that two outcomes are equal. Assumes nothing.
+use Rattle.std.specs.Prelude.{Ok, Err}
 use mathlib.Core.Path.{◌≡◌, refl, ap, sym, ◌∙◌}
 use mathlib.Core.List.{List, [], ◌++◌, append_assoc, append-nil}
 use Prim.Native.Nat.{ℕ, ◌+◌, ◌-◌, ◌<◌, ◌≤◌}
@@ -9,21 +10,18 @@ use lib.ListN.{length, take, drop, get_or, replicate, length-append, length-drop
 use lib.Seq.{take_at, drop_at, drop-drop}
 use borrow.Author.Tests.{le-leb, lt-leb}
 use Rattle.policy.specs.Fields.{limits}
-use Rattle.policy.specs.Refusals.{accepted, refused, number_of}
+use Rattle.policy.specs.Refusals.{Answered, Answer, accepted, refused, number_of}
 use Rattle.policy.specs.declared.Refusal.{Refusal}
 use Rattle.policy.specs.declared.Refusal.TheVariants.{BufferShort}
-use Rattle.policy.specs.declared.Answer.{Answer}
-use Rattle.policy.specs.declared.Answer.TheVariants.{Length, Refused}
-use Rattle.policy.proofs.Answers.{said_once}
+use Rattle.policy.proofs.Answers.{said_once, given_refusal, given_laid}
 use Rattle.wire.specs.Buffers.{room_for, filled, written, length_of}
 use Rattle.sheet.specs.Orders.{order_bytes, order_size}
 use Rattle.wire.proofs.Buffers.{refusal_leaves}
 use Rattle.orders.specs.Join.{Join, join_of}
-use Rattle.sheet.specs.Steps.{ListLaid, OfRules, ListRead}
+use Rattle.sheet.specs.Steps.{ListRead}
 use Rattle.sheet.specs.declared.Section.{Section}
-use Rattle.sheet.specs.declared.Section.TheVariants as S
 use Rattle.sheet.proofs.Parts.{bytes_of, part_from}
-use Rattle.sheet.proofs.Accepted.{list_refused, list_accepted}
+use Rattle.sheet.proofs.Accepted.{list_accepted}
 
 pub join_once : {a b out : List ℕ} {r q : Answer} {x y : List ℕ} → Join a b out r x → Join a b out q y → (r ≡ q) × (x ≡ y)
 join_once {r = r} {q = q} u v = (said_once r q (u.answer ∙ sym v.answer), u.sheet ∙ sym v.sheet)
@@ -46,46 +44,42 @@ filled_both out first second copied part m n e h g u v =
     let r : n - m - length second ≡ n - length (first ++ second) = omega arith in
     rw (t, z, append-nil, y, append_assoc, r) refl
 
-list_laid : {most : ℕ} {s : List ℕ} {r : Section} → ListRead most s r → (n next : ℕ) → r ≡ S.Rules n next → ListLaid most s n next
-unfolding OfRules
-list_laid x n next e = rw e at x.laid
-
 -- Both lists fit the sheet.
-module _ {a b : List ℕ} {r q : Section} (x : ListRead limits.gate a r) (y : ListRead limits.own b q)
-    (n m : ℕ) (e : r ≡ S.Rules n m) (j k : ℕ) (f : q ≡ S.Rules j k) where
+module _ {a b : List ℕ} {r q : Answered Section} (x : ListRead limits.gate a r) (y : ListRead limits.own b q)
+    (l : Section) (e : r ≡ Ok l) (m : Section) (f : q ≡ Ok m) where
   pub both_fit : length a + length b ≤ order_size
   both_fit =
-      let p = list_laid x n m e in
-      let o = list_laid y j k f in
-      omega arith
+      let p = given_laid x l e in
+      let o = given_laid y m f in
+      omega (arith, p.whole, p.section.end, p.section.limit, o.whole, o.section.end, o.section.limit)
 
 module _ (a b out : List ℕ) where
-  refusing : (f : Refusal) → join_of limits a b out ≡ refused (number_of f) → Join a b out (Refused f) out
+  refusing : (f : Refusal) → join_of limits a b out ≡ refused (number_of f) → Join a b out (Err f) out
   unfolding length_of
   refusing f e = record { answer = rw e refl; sheet = refusal_leaves order_bytes order_size out e }
 
-  pub sheet_short : length out < order_size → Join a b out (Refused BufferShort) out
+  pub sheet_short : length out < order_size → Join a b out (Err BufferShort) out
   unfolding join_of room_for
   sheet_short h = refusing BufferShort (rw (lt-leb order_size (length out) h) refl)
 
-  module _ (x : order_size ≤ length out) {r : Section} (g : ListRead limits.gate a r) where
-    pub join_gate_refusal : (f : Refusal) → r ≡ S.Refused f → Join a b out (Refused f) out
+  module _ (x : order_size ≤ length out) {r : Answered Section} (g : ListRead limits.gate a r) where
+    pub join_gate_refusal : (f : Refusal) → r ≡ Err f → Join a b out (Err f) out
     unfolding join_of room_for
-    join_gate_refusal f e = refusing f (rw (le-leb order_size (length out) x, list_refused g f e) refl)
+    join_gate_refusal f e = refusing f (rw (le-leb order_size (length out) x, given_refusal g f e) refl)
 
-    module _ (ba : (i : ℕ) → Fits w8 (get_or a i 0)) (n m : ℕ) (e : r ≡ S.Rules n m) {q : Section} (h : ListRead limits.own b q) where
-      pub join_own_refusal : (f : Refusal) → q ≡ S.Refused f → Join a b out (Refused f) out
+    module _ (ba : (i : ℕ) → Fits w8 (get_or a i 0)) (l : Section) (e : r ≡ Ok l) {q : Answered Section} (h : ListRead limits.own b q) where
+      pub join_own_refusal : (f : Refusal) → q ≡ Err f → Join a b out (Err f) out
       unfolding join_of room_for
       join_own_refusal f i =
-          refusing f (rw (le-leb order_size (length out) x, (list_accepted g (bytes_of a ba) n m e).reads, list_refused h f i) refl)
+          refusing f (rw (le-leb order_size (length out) x, (list_accepted g (bytes_of a ba) l e).reads, given_refusal h f i) refl)
 
       pub join_done :
-          ((i : ℕ) → Fits w8 (get_or b i 0)) → (j k : ℕ) → q ≡ S.Rules j k → {last : List ℕ} → last ≡ filled order_size out (a ++ b)
-          → Join a b out (Length (length a + length b)) last
+          ((i : ℕ) → Fits w8 (get_or b i 0)) → (m : Section) → q ≡ Ok m → {last : List ℕ} → last ≡ filled order_size out (a ++ b)
+          → Join a b out (Ok (length a + length b)) last
       unfolding join_of length_of written order_bytes room_for
-      join_done bb j k i u =
-          let z = list_accepted g (bytes_of a ba) n m e in
-          let w = list_accepted h (bytes_of b bb) j k i in
+      join_done bb m i u =
+          let z = list_accepted g (bytes_of a ba) l e in
+          let w = list_accepted h (bytes_of b bb) m i in
           record {
             answer = rw (le-leb order_size (length out) x, z.reads, w.reads, z.bytes, w.bytes) (ap accepted (sym (length-append a b)));
             sheet = rw (le-leb order_size (length out) x, z.reads, w.reads, z.bytes, w.bytes) u;

@@ -1,4 +1,5 @@
 -- Split and join undo each other. Assumes nothing.
+use Rattle.std.specs.Prelude.{Ok}
 use mathlib.Core.Path.{◌≡◌, refl, ap, ◌∙◌}
 use mathlib.Core.List.{List, ◌++◌}
 use Prim.Native.Nat.{ℕ, ◌-◌, ◌≤◌}
@@ -8,10 +9,8 @@ use lib.ListN.{length, take, length-append}
 use borrow.Author.Tests.{le-leb}
 use Rattle.lists.specs.Lists.{Each}
 use Rattle.policy.specs.Fields.{limits}
-use Rattle.policy.specs.Refusals.{Outcome, accepted, refused, said}
+use Rattle.policy.specs.Refusals.{Answer, Outcome, accepted, refused, said}
 use Rattle.policy.specs.Move.{Order}
-use Rattle.policy.specs.declared.Answer.{Answer}
-use Rattle.policy.specs.declared.Answer.TheVariants.{Length}
 use Rattle.policy.proofs.Answers.{said_once, test_accepted}
 use Rattle.wire.specs.Numbers.{Byte}
 use Rattle.wire.specs.Buffers.{room_for, filled, written, length_of}
@@ -31,11 +30,11 @@ record SplitAccepted (s a b : List ℕ) (n : ℕ) (a' b' : List ℕ) : Type 0 wh
   pub gate : a' ≡ filled gate_size a (list_bytes lists.gate)
   pub own : b' ≡ filled own_size b (list_bytes lists.own)
 
-split_accepted : {s a b : List ℕ} {n : ℕ} {a' b' : List ℕ} → Split s a b (Length n) a' b' → SplitAccepted s a b n a' b'
+split_accepted : {s a b : List ℕ} {n : ℕ} {a' b' : List ℕ} → Split s a b (Ok n) a' b' → SplitAccepted s a b n a' b'
 unfolding split_of length_of written room_for
 split_accepted {s} {a} {b} {n} {a'} {b'} x = go (split_of limits s a b) refl x.answer x.gate x.own
   where
-    go : (y : Outcome Order) → split_of limits s a b ≡ y → said (Length n) ≡ length_of first_bytes y → a' ≡ written first_bytes gate_size a y → b' ≡ written second_bytes own_size b y
+    go : (y : Outcome Order) → split_of limits s a b ≡ y → said (Ok n) ≡ length_of first_bytes y → a' ≡ written first_bytes gate_size a y → b' ≡ written second_bytes own_size b y
         → SplitAccepted s a b n a' b'
     go (accepted o) e u v w =
         let c = test_accepted (leb gate_size (length a)) 1 _ e in
@@ -51,7 +50,7 @@ pub record SplitWrote (s : List ℕ) (n : ℕ) (a' b' : List ℕ) : Type 0 where
   pub gate : take n a' ≡ list_bytes lists.gate
   pub own : take (length s - n) b' ≡ list_bytes lists.own
 
-pub split_wrote : {s a b : List ℕ} {n : ℕ} {a' b' : List ℕ} → Each Byte s → Split s a b (Length n) a' b' → SplitWrote s n a' b'
+pub split_wrote : {s a b : List ℕ} {n : ℕ} {a' b' : List ℕ} → Each Byte s → Split s a b (Ok n) a' b' → SplitWrote s n a' b'
 unfolding order_bytes
 split_wrote {s} {a} {b} {n} {a'} {b'} h x =
     let p = split_accepted x in
@@ -75,11 +74,11 @@ record JoinAccepted (a b out : List ℕ) (n : ℕ) (out' : List ℕ) : Type 0 wh
   pub answer : n ≡ length (order_bytes lists)
   pub sheet : out' ≡ filled order_size out (order_bytes lists)
 
-join_accepted : {a b out : List ℕ} {n : ℕ} {out' : List ℕ} → Join a b out (Length n) out' → JoinAccepted a b out n out'
+join_accepted : {a b out : List ℕ} {n : ℕ} {out' : List ℕ} → Join a b out (Ok n) out' → JoinAccepted a b out n out'
 unfolding join_of length_of written room_for
 join_accepted {a} {b} {out} {n} {out'} x = go (join_of limits a b out) refl x.answer x.sheet
   where
-    go : (y : Outcome Order) → join_of limits a b out ≡ y → said (Length n) ≡ length_of order_bytes y → out' ≡ written order_bytes order_size out y → JoinAccepted a b out n out'
+    go : (y : Outcome Order) → join_of limits a b out ≡ y → said (Ok n) ≡ length_of order_bytes y → out' ≡ written order_bytes order_size out y → JoinAccepted a b out n out'
     go (accepted o) e u v =
         let c = test_accepted (leb order_size (length out)) 1 _ e in
         let d = through (list_in limits.gate a) _ o c.1 in
@@ -96,8 +95,8 @@ join_accepted {a} {b} {out} {n} {out'} x = go (join_of limits a b out) refl x.an
 
 -- The lists that a split gives join to the sheet that was split.
 pub split_then_join :
-    {s a b a' b' out out' : List ℕ} {n : ℕ} {r : Answer} → Each Byte s → Split s a b (Length n) a' b' → order_size ≤ length out
-    → Join (take n a') (take (length s - n) b') out r out' → (r ≡ Length (length s)) × (out' ≡ filled order_size out s)
+    {s a b a' b' out out' : List ℕ} {n : ℕ} {r : Answer} → Each Byte s → Split s a b (Ok n) a' b' → order_size ≤ length out
+    → Join (take n a') (take (length s - n) b') out r out' → (r ≡ Ok (length s)) × (out' ≡ filled order_size out s)
 unfolding order_bytes join_of length_of written room_for
 split_then_join {s} {a} {b} {a'} {b'} {out} {out'} {n} {r} h x g y =
     let p = split_wrote h x in
@@ -112,15 +111,15 @@ split_then_join {s} {a} {b} {a'} {b'} {out} {out'} {n} {r} h x g y =
       list_again limits.own o.own (omega arith) f.1,
     )
     refl in (
-      said_once r (Length (length s)) (z.answer ∙ (ap (length_of order_bytes) j ∙ ap (λ (t : List ℕ). accepted (length t)) k)),
+      said_once r (Ok (length s)) (z.answer ∙ (ap (length_of order_bytes) j ∙ ap (λ (t : List ℕ). accepted (length t)) k)),
       z.sheet ∙ (ap (written order_bytes order_size out) j ∙ ap (filled order_size out) k),
     )
 
 -- A joined sheet splits to the lists that were joined.
 pub join_then_split :
-    {a b out out' x y x' y' : List ℕ} {n : ℕ} {r : Answer} → Each Byte a → Each Byte b → Join a b out (Length n) out'
+    {a b out out' x y x' y' : List ℕ} {n : ℕ} {r : Answer} → Each Byte a → Each Byte b → Join a b out (Ok n) out'
     → gate_size ≤ length x → own_size ≤ length y → Split (take n out') x y r x' y'
-    → (r ≡ Length (length a)) × (x' ≡ filled gate_size x a) × (y' ≡ filled own_size y b)
+    → (r ≡ Ok (length a)) × (x' ≡ filled gate_size x a) × (y' ≡ filled own_size y b)
 unfolding split_of length_of written room_for
 join_then_split {a} {b} {out} {out'} {x} {y} {x'} {y'} {n} {r} h k j g w z =
     let p = join_accepted j in
@@ -136,7 +135,7 @@ join_then_split {a} {b} {out} {out'} {x} {y} {x'} {y'} {n} {r} h k j g w z =
       order_again limits o (omega arith) (omega arith) (list_readable limits.gate a o.gate p.gate) (list_readable limits.own b o.own p.own),
     )
     refl in (
-      said_once r (Length (length a)) (v.answer ∙ (ap (length_of first_bytes) c ∙ ap (λ (t : List ℕ). accepted (length t)) e)),
+      said_once r (Ok (length a)) (v.answer ∙ (ap (length_of first_bytes) c ∙ ap (λ (t : List ℕ). accepted (length t)) e)),
       v.gate ∙ (ap (written first_bytes gate_size x) c ∙ ap (filled gate_size x) e),
       v.own ∙ (ap (written second_bytes own_size y) c ∙ ap (filled own_size y) f),
     )

@@ -1,9 +1,8 @@
 -- Join: an order sheet from its A list and its B list (01, Calls). Assumes nothing.
 use Rattle.std.specs.Prelude.{◌≡◌, List, ℕ}
 use Rattle.policy.specs.Fields.{Limits, limits}
-use Rattle.policy.specs.Refusals.{Outcome, accepted, test, and_then, said}
+use Rattle.policy.specs.Refusals.{Answer, Outcome, accepted, test, and_then, said}
 use Rattle.policy.specs.Move.{Order}
-use Rattle.policy.specs.declared.Answer.{Answer}
 use Rattle.wire.specs.Buffers.{room_for, written, length_of}
 use Rattle.sheet.specs.Orders.{order, order_bytes, list_in, order_size}
 

@@ -1,9 +1,8 @@
 -- Split: an order sheet into its A list and its B list (01, Calls). Assumes nothing.
 use Rattle.std.specs.Prelude.{◌≡◌, List, ℕ}
 use Rattle.policy.specs.Fields.{Limits, limits}
-use Rattle.policy.specs.Refusals.{Outcome, test, said}
+use Rattle.policy.specs.Refusals.{Answer, Outcome, test, said}
 use Rattle.policy.specs.Move.{Order}
-use Rattle.policy.specs.declared.Answer.{Answer}
 use Rattle.wire.specs.Buffers.{room_for, written, length_of}
 use Rattle.sheet.specs.Orders.{order_in, gate_size, own_size}
 use Rattle.wire.specs.Lists.{list_bytes}

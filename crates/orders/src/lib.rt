@@ -7,27 +7,19 @@ ghost use Rattle.orders.specs.Split.{Split};
 ghost use Rattle.orders.specs.Join.{Join};
 
 use policy::{Answer, GATE_MOST, OWN_MOST, Refusal};
-use sheet::{GATE_BYTES, ORDER_BYTES, OWN_BYTES, OrderParts, Section};
+use sheet::{GATE_BYTES, ORDER_BYTES, OWN_BYTES};
 
 // An order sheet into its A list and its B list; the answer is the length of the A list.
 pub fn split(sheet: &[u8], a: &mut [u8], b: &mut [u8]) -> Answer
     ensures { Split sheet.now a.old b.old result a.new b.new }
 {
-    if a.len() < GATE_BYTES {
-        return Answer::Refused(Refusal::BufferShort);
+    if a.len() < GATE_BYTES || b.len() < OWN_BYTES {
+        return Err(Refusal::BufferShort);
     }
-    if b.len() < OWN_BYTES {
-        return Answer::Refused(Refusal::BufferShort);
-    }
-    match sheet::read_order(sheet) {
-        OrderParts::Refused(f) => Answer::Refused(f),
-        OrderParts::Parts(layout) => {
-            let middle = layout.middle;
-            wire::fill(a, GATE_BYTES, &sheet[..middle]);
-            wire::fill(b, OWN_BYTES, &sheet[middle..]);
-            Answer::Length(middle)
-        }
-    }
+    let middle = sheet::read_order(sheet)?.middle;
+    wire::fill(a, GATE_BYTES, &sheet[..middle]);
+    wire::fill(b, OWN_BYTES, &sheet[middle..]);
+    Ok(middle)
 }
 
 // Two contents one behind the other, and zero behind them up to an end.
@@ -45,16 +37,10 @@ pub fn join(a: &[u8], b: &[u8], sheet: &mut [u8]) -> Answer
     ensures { Join a.now b.now sheet.old result sheet.new }
 {
     if sheet.len() < ORDER_BYTES {
-        return Answer::Refused(Refusal::BufferShort);
+        return Err(Refusal::BufferShort);
     }
-    match sheet::read_list(a, GATE_MOST) {
-        Section::Refused(f) => Answer::Refused(f),
-        Section::Rules { count: _, next: _ } => match sheet::read_list(b, OWN_MOST) {
-            Section::Refused(f) => Answer::Refused(f),
-            Section::Rules { count: _, next: _ } => {
-                fill_both(sheet, ORDER_BYTES, a, b);
-                Answer::Length(a.len() + b.len())
-            }
-        },
-    }
+    sheet::read_list(a, GATE_MOST)?;
+    sheet::read_list(b, OWN_MOST)?;
+    fill_both(sheet, ORDER_BYTES, a, b);
+    Ok(a.len() + b.len())
 }

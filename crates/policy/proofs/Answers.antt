@@ -4,7 +4,8 @@ use mathlib.Core.Bool.{Bool, true, false, cond}
 use Prim.Native.Nat.{ℕ, zero, suc}
 use native.Mathlib.Omega.{arith}
 use lib.Dec.{eqb}
-use Rattle.policy.specs.Refusals.{number_of, Outcome, accepted, test, unless, said}
+use Rattle.std.specs.Prelude.{Ok, Err}
+use Rattle.policy.specs.Refusals.{number_of, Outcome, accepted, refused, test, unless, Answered, Answer, heard, Gives, said}
 use Rattle.policy.specs.declared.Refusal.{Refusal}
 use Rattle.policy.specs.declared.Refusal.TheVariants.{
   BufferShort,
@@ -17,8 +18,6 @@ use Rattle.policy.specs.declared.Refusal.TheVariants.{
   GroupsDiffer,
   NoPlace,
 }
-use Rattle.policy.specs.declared.Answer.{Answer}
-use Rattle.policy.specs.declared.Answer.TheVariants.{Length, Refused}
 
 -- The refusal that has a number.
 refusal_of : ℕ → Refusal
@@ -42,10 +41,25 @@ pub number_once : (f g : Refusal) → number_of f ≡ number_of g → f ≡ g
 number_once f g e = sym (back f) ∙ (ap refusal_of e ∙ back g)
 
 pub said_once : (r q : Answer) → said r ≡ said q → r ≡ q
-said_once (Length n) (Length m) e = ap Length (cc)
-said_once (Length n) (Refused f) e = let z : ◌≡◌ {A = ℕ} 0 1 = cc in absurd (omega arith)
-said_once (Refused f) (Length m) e = let z : ◌≡◌ {A = ℕ} 0 1 = cc in absurd (omega arith)
-said_once (Refused f) (Refused g) e = ap Refused (number_once f g (cc))
+said_once (Ok n) (Ok m) e = ap Ok (cc)
+said_once (Ok n) (Err f) e = let z : ◌≡◌ {A = ℕ} 0 1 = cc in absurd (omega arith)
+said_once (Err f) (Ok m) e = let z : ◌≡◌ {A = ℕ} 0 1 = cc in absurd (omega arith)
+said_once (Err f) (Err g) e = ap Err (number_once f g (cc))
+
+-- What is given where a call answers a refusal, and what is known of the outcome from either answer.
+module _ {A B : Type 0} {meaning : A → B} {x : Outcome B} {Laid : A → Type 0} where
+  pub gives_refusal : (f : Refusal) → x ≡ refused (number_of f) → Gives meaning x Laid (Err f)
+  gives_refusal f e = record { says = sym e; laid = tt }
+
+  module _ {r : Answered A} (g : Gives meaning x Laid r) where
+    pub given_refusal : (f : Refusal) → r ≡ Err f → x ≡ refused (number_of f)
+    given_refusal f e = sym g.says ∙ ap (heard meaning) e
+
+    pub given_value : (a : A) → r ≡ Ok a → x ≡ accepted (meaning a)
+    given_value a e = sym g.says ∙ ap (heard meaning) e
+
+    pub given_laid : (a : A) → r ≡ Ok a → Laid a
+    given_laid a e = rw e at g.laid
 
 pub test_accepted : {A : Type 0} (t : Bool) (n : ℕ) (x : Outcome A) {a : A} → test t n x ≡ accepted a → (t ≡ true) × (x ≡ accepted a)
 test_accepted true n x e = (refl, e)

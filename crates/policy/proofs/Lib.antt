@@ -2,6 +2,7 @@ pub mod Refused
 pub mod Example
 pub mod Numbers
 pub mod Values
+pub mod Fields
 pub mod Cuts
 pub mod Rest
 pub mod Groups

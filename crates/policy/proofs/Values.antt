@@ -33,10 +33,6 @@ ranges_at (x ∷ ls) [] k e = absurd (omega arith)
 ranges_at (x ∷ ls) (y ∷ hs) zero e = refl
 ranges_at (x ∷ ls) (y ∷ hs) (suc k) e = ranges_at ls hs k (omega arith)
 
--- The range whose ends were read at field k.
-pub range_read : (b : Region) (k : ℕ) {l h : ℕ} → l ≡ (range_at b k).low → h ≡ (range_at b k).high → range l h ≡ range_at b k
-range_read b k low high = λ i. range (low i) (high i)
-
 -- A walk over the fields that puts something new at field k: what it has when it comes to field j.
 module _ {A : Type 0} (k j : ℕ) (new old : A) where
   pub walk_before : j ≤ k → cond (ltb k j) new old ≡ old

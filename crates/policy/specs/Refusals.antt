@@ -1,6 +1,6 @@
 -- The numbers given back, and the answers of the code read as numbers and values (01, Numbers given back).
 -- Assumes nothing.
-use Rattle.std.specs.Prelude.{List, [], ◌∷◌, Bool, true, false, not, ℕ, zero, suc}
+use Rattle.std.specs.Prelude.{◌≡◌, List, [], ◌∷◌, Bool, true, false, not, ℕ, zero, suc, Result, Ok, Err, IfOk}
 use Rattle.policy.specs.Rules.{Rule, sound}
 use Rattle.policy.specs.declared.Refusal.{Refusal}
 use Rattle.policy.specs.declared.Refusal.TheVariants.{
@@ -14,8 +14,6 @@ use Rattle.policy.specs.declared.Refusal.TheVariants.{
   GroupsDiffer,
   NoPlace,
 }
-use Rattle.policy.specs.declared.Answer.{Answer}
-use Rattle.policy.specs.declared.Answer.TheVariants.{Length, Refused}
 
 -- The table's number of each refusal.
 abbrev pub number_of : Refusal → ℕ
@@ -67,7 +65,22 @@ unfoldable pub rules_refusal : List Rule → ℕ
 rules_refusal [] = 0
 rules_refusal (r ∷ l) = or_else (given (not (sound r)) 4) (rules_refusal l)
 
--- The value answered, or the refusal's number.
+-- What the code answers with: a value, or its refusal. The value is read as what it stands for, and the refusal as its number.
+abbrev pub Answered : Type 0 → Type 0
+Answered A = Result A Refusal
+
+abbrev pub heard : {A B : Type 0} → (A → B) → Answered A → Outcome B
+heard meaning (Ok a) = accepted (meaning a)
+heard meaning (Err f) = refused (number_of f)
+
+-- A call gives an outcome: its answer is heard as that, and of a value answered this is said besides.
+pub record Gives {A B : Type 0} (meaning : A → B) (x : Outcome B) (Laid : A → Type 0) (r : Answered A) : Type 0 where
+  pub says : heard meaning r ≡ x
+  pub laid : IfOk r Laid
+
+-- The value answered, mostly a length, or the refusal's number.
+abbrev pub Answer : Type 0
+Answer = Answered ℕ
+
 abbrev pub said : Answer → Outcome ℕ
-said (Length n) = accepted n
-said (Refused f) = refused (number_of f)
+said r = heard (λ n. n) r

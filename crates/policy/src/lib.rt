@@ -2,13 +2,13 @@
 // their widths stand in the fields' table below; only the calls for C name the fields one by one.
 #![tactic(auto)]
 
-ghost use Rattle.std.specs.Prelude.{◌≡◌, true, false, ◌+◌, ◌-◌, ◌≤◌, ◌<◌, length, get_or, set};
+ghost use Rattle.std.specs.Prelude.{◌≡◌, true, false, ◌+◌, ◌-◌, ◌≤◌, ◌<◌, get_or, set};
 ghost use Rattle.policy.specs.Fields.{fields, highest, limits};
 ghost use Rattle.policy.specs.Ranges.{range, proper_range, proper, full_range, is_full};
 ghost use Rattle.policy.specs.Rules.{sound, is_allow};
 ghost use Rattle.policy.specs.Cut.{meets, share};
 ghost use Rattle.policy.specs.Refusals.{number_of, refusal_base};
-ghost use Rattle.policy.specs.Values.{region_of, rule_of};
+ghost use Rattle.policy.specs.Values.{range_of, region_of, rule_of};
 ghost use Rattle.policy.specs.Steps.{range_at};
 
 // The fields' table: source address, destination address, source port, destination port, protocol.
@@ -37,6 +37,13 @@ pub const TOTAL_MOST: usize = 1024;
 // For C a refusal is this and its number.
 pub const REFUSAL_BASE: u32 = 65536;
 
+// Both ends belong to a range.
+#[derive(Clone, Copy)]
+pub struct Range {
+    pub low: u32,
+    pub high: u32,
+}
+
 // A range for each field. Boxes and rules lie in memory as C lays them out, so that C can lend a table of them.
 #[repr(C)]
 #[derive(Clone, Copy)]
@@ -44,6 +51,12 @@ pub struct Box {
     pub low: [u32; FIELDS],
     pub high: [u32; FIELDS],
 }
+
+// The box that has every packet.
+pub const FULL: Box = Box {
+    low: [0; FIELDS],
+    high: HIGHEST,
+};
 
 #[repr(C)]
 #[derive(Clone, Copy)]
@@ -57,9 +70,10 @@ pub struct Packet {
     pub values: [u32; FIELDS],
 }
 
+// Why a call is refused, each with its number.
 #[derive(Clone, Copy)]
 pub enum Refusal {
-    BufferShort,
+    BufferShort = 1,
     CountOutside,
     LengthWrong,
     RuleBad,
@@ -71,26 +85,12 @@ pub enum Refusal {
 }
 
 // The value that a call answers, mostly a length, or the refusal.
-#[derive(Clone, Copy)]
-pub enum Answer {
-    Length(usize),
-    Refused(Refusal),
-}
+pub type Answer = Result<usize, Refusal>;
 
 pub fn number_of(f: Refusal) -> u32
     ensures { (result ≡ number_of f) × (result ≤ 9) }
 {
-    match f {
-        Refusal::BufferShort => 1,
-        Refusal::CountOutside => 2,
-        Refusal::LengthWrong => 3,
-        Refusal::RuleBad => 4,
-        Refusal::NotComplete => 5,
-        Refusal::TooManyPieces => 6,
-        Refusal::TooManyBoxes => 7,
-        Refusal::GroupsDiffer => 8,
-        Refusal::NoPlace => 9,
-    }
+    f as u32
 }
 
 // The one number that C gets for a refusal.
@@ -100,32 +100,25 @@ pub fn refused_number(f: Refusal) -> u32
     REFUSAL_BASE + number_of(f)
 }
 
-fn is_proper_range(low: u32, high: u32, most: u32) -> bool
-    ensures { result ≡ proper_range most (range low high) }
-{
-    if high < low {
-        return false;
+impl Range {
+    fn is_proper(self, most: u32) -> bool
+        ensures { result ≡ proper_range most (range_of self) }
+    {
+        self.low <= self.high && self.high <= most
     }
-    high <= most
-}
 
-fn is_full_range(low: u32, high: u32, most: u32) -> bool
-    ensures { result ≡ full_range most (range low high) }
-{
-    if low != 0 {
-        return false;
+    fn is_full(self, most: u32) -> bool
+        ensures { result ≡ full_range most (range_of self) }
+    {
+        self.low == 0 && self.high == most
     }
-    high == most
-}
 
-// Whether the ranges, neither of them empty, have a value in common.
-fn ranges_meet(low: u32, high: u32, from: u32, to: u32) -> bool
-    ensures { result ≡ meets (range low high) (range from to) }
-{
-    if to < low {
-        return false;
+    // Whether the ranges, neither of them empty, have a value in common.
+    fn meets(self, r: Range) -> bool
+        ensures { result ≡ meets (range_of self) (range_of r) }
+    {
+        self.low <= r.high && r.low <= self.high
     }
-    from <= high
 }
 
 fn value_at(values: [u32; FIELDS], k: usize) -> u32
@@ -133,47 +126,37 @@ fn value_at(values: [u32; FIELDS], k: usize) -> u32
     ensures { result ≡ get_or values k 0 }
 {
     let mut x: u32 = 0;
-    let mut j: usize = 0;
-    while j < FIELDS {
+    for j in 0..FIELDS {
         if j == k {
             x = values[j];
         }
-        j += 1;
     }
     x
 }
 
 impl Box {
-    pub fn low_at(self, k: usize) -> u32
+    pub fn range(self, k: usize) -> Range
         requires { k < fields }
-        ensures { (result ≡ (range_at (region_of self) k).low) × (length (region_of self) ≡ fields) }
+        ensures { range_of result ≡ range_at (region_of self) k }
     {
-        let low = self.low;
-        low[k]
-    }
-
-    pub fn high_at(self, k: usize) -> u32
-        requires { k < fields }
-        ensures { (result ≡ (range_at (region_of self) k).high) × (length (region_of self) ≡ fields) }
-    {
-        let high = self.high;
-        high[k]
+        Range {
+            low: self.low[k],
+            high: self.high[k],
+        }
     }
 
     // Field k narrowed to a range. The fields are walked and not indexed, here and in `value_at`: so a box that is cut stays in
     // registers.
-    pub fn narrow(self, k: usize, low: u32, high: u32) -> Box
+    pub fn narrow(self, k: usize, r: Range) -> Box
         requires { k < fields }
-        ensures { region_of result ≡ set (region_of self) k (range low high) }
+        ensures { region_of result ≡ set (region_of self) k (range_of r) }
     {
         let mut b = self;
-        let mut j: usize = 0;
-        while j < FIELDS {
+        for j in 0..FIELDS {
             if j == k {
-                b.low[j] = low;
-                b.high[j] = high;
+                b.low[j] = r.low;
+                b.high[j] = r.high;
             }
-            j += 1;
         }
         b
     }
@@ -183,8 +166,8 @@ impl Box {
         requires { (k < fields) × (0 < x) }
         ensures { region_of result ≡ set (region_of self) k (range (range_at (region_of self) k).low (x - 1)) }
     {
-        let low = self.low;
-        self.narrow(k, value_at(low, k), x - 1)
+        let low = value_at(self.low, k);
+        self.narrow(k, Range { low, high: x - 1 })
     }
 
     // The part whose field k is above x.
@@ -192,22 +175,15 @@ impl Box {
         requires { (k < fields) × (x < 4294967295) }
         ensures { region_of result ≡ set (region_of self) k (range (x + 1) (range_at (region_of self) k).high) }
     {
-        let high = self.high;
-        self.narrow(k, x + 1, value_at(high, k))
+        let high = value_at(self.high, k);
+        self.narrow(k, Range { low: x + 1, high })
     }
 
     // Whether the boxes, neither of them empty, have a packet in common.
     pub fn shares(self, a: Box) -> bool
         ensures { result ≡ share (region_of self) (region_of a) }
     {
-        let mut k: usize = 0;
-        while k < FIELDS {
-            if !ranges_meet(self.low_at(k), self.high_at(k), a.low_at(k), a.high_at(k)) {
-                return false;
-            }
-            k += 1;
-        }
-        true
+        (0..FIELDS).all(|k| self.range(k).meets(a.range(k)))
     }
 
     // No low above its high, no value above its field's highest. From the last field to the first, as a lookup tries them afterwards:
@@ -215,10 +191,8 @@ impl Box {
     pub fn is_proper(self) -> bool
         ensures { result ≡ proper highest (region_of self) }
     {
-        let mut k: usize = FIELDS;
-        while k > 0 {
-            k -= 1;
-            if !is_proper_range(self.low_at(k), self.high_at(k), HIGHEST[k]) {
+        for k in (0..FIELDS).rev() {
+            if !self.range(k).is_proper(HIGHEST[k]) {
                 return false;
             }
         }
@@ -228,27 +202,17 @@ impl Box {
     pub fn is_full(self) -> bool
         ensures { result ≡ is_full highest (region_of self) }
     {
-        let mut k: usize = 0;
-        while k < FIELDS {
-            if !is_full_range(self.low_at(k), self.high_at(k), HIGHEST[k]) {
-                return false;
-            }
-            k += 1;
-        }
-        true
+        (0..FIELDS).all(|k| self.range(k).is_full(HIGHEST[k]))
     }
 }
 
 impl Rule {
     // A rule that number 4 lets pass.
+    #[tactic(auto, unfolding(crate::specs::Rules::sound))]
     pub fn is_sound(self) -> bool
         ensures { result ≡ sound (rule_of self) }
     {
-        let bounds = self.bounds;
-        if bounds.is_proper() {
-            return self.action <= 1;
-        }
-        false
+        self.bounds.is_proper() && self.action <= 1
     }
 
     pub fn is_allow(self) -> bool
@@ -262,8 +226,5 @@ impl Rule {
 pub fn has_room(boxes: usize, own: usize) -> bool
     ensures { (result ≡ true → boxes + own ≤ limits.total) × (result ≡ false → limits.total < boxes + own) }
 {
-    if TOTAL_MOST < own {
-        return false;
-    }
-    boxes <= TOTAL_MOST - own
+    own <= TOTAL_MOST && boxes <= TOTAL_MOST - own
 }

@@ -1,5 +1,6 @@
 -- What the tests of the lent buffers and the clearing of the work buffer make of a call's inner part; and two outcomes of one
 -- call are equal. Assumes nothing.
+use Rattle.std.specs.Prelude.{Ok, Err}
 use mathlib.Core.Path.{◌≡◌, refl, ap, sym, ◌∙◌}
 use mathlib.Core.List.{List}
 use mathlib.Core.Bool.{Bool, true, false, ◌&&◌}
@@ -9,9 +10,7 @@ use lib.ListN.{length, take, drop}
 use borrow.Author.Tests.{le-leb, lt-leb}
 use Rattle.lists.proofs.Tests.{and_both}
 use Rattle.policy.specs.Fields.{work_size}
-use Rattle.policy.specs.Refusals.{Outcome, accepted, refused, test, number_of}
-use Rattle.policy.specs.declared.Answer.{Answer}
-use Rattle.policy.specs.declared.Answer.TheVariants.{Length, Refused}
+use Rattle.policy.specs.Refusals.{Answer, Outcome, accepted, refused, test, number_of}
 use Rattle.policy.specs.declared.Refusal.{Refusal}
 use Rattle.policy.specs.declared.Refusal.TheVariants.{BufferShort}
 use Rattle.policy.proofs.Answers.{said_once}
@@ -42,7 +41,7 @@ unfolding zeroed
 zeroed_same n v w e = rw e
 
 module _ {A : Type 0} (bytes : A → List ℕ) (size : ℕ) (lent : Bool) (x : Outcome A) (out w : List ℕ) where
-  pub call_short : lent ≡ false → Call bytes size lent x out w (Refused BufferShort) out w
+  pub call_short : lent ≡ false → Call bytes size lent x out w (Err BufferShort) out w
   unfolding length_of written work_after
   call_short h = record { answer = rw h; result = rw h; work = rw h }
 
@@ -72,7 +71,7 @@ accepts bytes size true (accepted p) out left n e f = record { room = refl; valu
 accepts bytes size true (refused k) out left n e f = let z : ◌≡◌ {A = ℕ} 0 1 = cc in absurd (omega arith)
 accepts bytes size false x out left n e f = let z : ◌≡◌ {A = ℕ} 0 1 = cc in absurd (omega arith)
 
-module _ {A : Type 0} (bytes : A → List ℕ) (size : ℕ) (lent : Bool) (x : Outcome A) {out w left w' : List ℕ} {n : ℕ} (c : Call bytes size lent x out w (Length n) left w') where
+module _ {A : Type 0} (bytes : A → List ℕ) (size : ℕ) (lent : Bool) (x : Outcome A) {out w left w' : List ℕ} {n : ℕ} (c : Call bytes size lent x out w (Ok n) left w') where
   pub call_accepted : CallAccepted bytes size lent x out left n
   call_accepted = accepts bytes size lent x out left n c.answer c.result
 
@@ -81,6 +80,6 @@ module _ {A : Type 0} (bytes : A → List ℕ) (size : ℕ) (lent : Bool) (x : O
 
 -- A refusal writes nothing.
 pub refuses : {A : Type 0} (bytes : A → List ℕ) (size : ℕ) (x : Outcome A) (out w w' : List ℕ) (f : Refusal)
-    → x ≡ refused (number_of f) → drop work_size w' ≡ drop work_size w → Writes bytes size x out w (Refused f) out w'
+    → x ≡ refused (number_of f) → drop work_size w' ≡ drop work_size w → Writes bytes size x out w (Err f) out w'
 unfolding length_of
 refuses bytes size x out w w' f e b = record { answer = rw e; result = refusal_leaves bytes size out e; beyond = b }

@@ -1,5 +1,6 @@
 -- What a call answers as a length is within the size that the call asks for, since what is lent keeps its length.
 -- Assumes nothing.
+use Rattle.std.specs.Prelude.{Ok}
 use mathlib.Core.Path.{◌≡◌, refl, ap, sym, ◌∙◌}
 use mathlib.Core.List.{List}
 use mathlib.Core.Bool.{Bool, ◌&&◌}
@@ -8,9 +9,7 @@ use native.Mathlib.Omega.{arith}
 use lib.ListN.{length, length-append, length-drop, length-replicate}
 use borrow.Author.Tests.{leb-true}
 use Rattle.lists.proofs.Tests.{and_true}
-use Rattle.policy.specs.Refusals.{Outcome, accepted, refused, test, said}
-use Rattle.policy.specs.declared.Answer.{Answer}
-use Rattle.policy.specs.declared.Answer.TheVariants.{Length}
+use Rattle.policy.specs.Refusals.{Answer, Outcome, accepted, refused, test, said}
 use Rattle.policy.proofs.Answers.{test_accepted}
 use Rattle.wire.specs.Buffers.{filled, written, length_of, room_for}
 use Rattle.promises.specs.Calls.{Call}
@@ -33,5 +32,5 @@ module _ {A : Type 0} (bytes : A → List ℕ) (size : ℕ) (b : Bool) (x : Outc
       omega arith
   within (refused m) e h n f = let z : ◌≡◌ {A = ℕ} 0 1 = cc in absurd (omega arith)
 
-  pub call_length : {w out' w' : List ℕ} {r : Answer} → Call bytes size (room_for size out && b) x out w r out' w' → length out' ≡ length out → (n : ℕ) → r ≡ Length n → n ≤ size
+  pub call_length : {w out' w' : List ℕ} {r : Answer} → Call bytes size (room_for size out && b) x out w r out' w' → length out' ≡ length out → (n : ℕ) → r ≡ Ok n → n ≤ size
   call_length c e n i = within (test (room_for size out && b) 1 x) refl (sym (ap length c.result) ∙ e) n (sym (ap said i) ∙ c.answer)

@@ -1,4 +1,5 @@
 -- The theorems of specs/Theorems.antt, from what the calls' statements say. Assumes nothing.
+use Rattle.std.specs.Prelude.{Ok, Err}
 use mathlib.Core.Path.{◌≡◌, refl, ap, sym, subst, ◌∙◌}
 use mathlib.Core.List.{List, [], ◌∷◌, ◌++◌, append_assoc}
 use mathlib.Core.Bool.{Bool, true, false, cond}
@@ -10,12 +11,10 @@ use lib.Seq.{take_at}
 use borrow.Author.Tests.{leb-true}
 use Rattle.lists.proofs.Tests.{and_true}
 use Rattle.policy.specs.Fields.{limits, work_size}
-use Rattle.policy.specs.Refusals.{Outcome, accepted, refused, test, said}
+use Rattle.policy.specs.Refusals.{Answer, Outcome, accepted, refused, test, said}
 use Rattle.policy.specs.Move.{Order, Pair, moved}
 use Rattle.policy.proofs.Refused.{move_refusal}
 use Rattle.policy.specs.Edit.{new_order, all_done}
-use Rattle.policy.specs.declared.Answer.{Answer}
-use Rattle.policy.specs.declared.Answer.TheVariants.{Length, Refused}
 use Rattle.policy.proofs.Answers.{said_once, test_accepted}
 use Rattle.wire.specs.Buffers.{filled, written, length_of, answered, room_for}
 use Rattle.sheet.specs.Orders.{order_bytes}
@@ -106,18 +105,18 @@ run_ends (c ∷ l) out o last h (left, w', x, rest) = go c.answer (test lent 1 d
         → ((o' : Order) → move_refusal limits o' ≡ 0 → EditCalls l (held out (moved o')) last → Ends l out o' last)
         → (move_refusal limits (all_done (if_length r (edit_of c.asked) (accepted_edits l)) o) ≡ 0)
         × (held out (moved (all_done (if_length r (edit_of c.asked) (accepted_edits l)) o)) ≡ last)
-    go (Length n) (accepted p) is e f more done =
+    go (Ok n) (accepted p) is e f more done =
         let t = test_accepted lent 1 does is in
         let k = and_true (leb c.used (length first.buffer)) _ (and_true (room_for pair_size first.buffer) _ t.0).1 in
         let d = edit_done limits limits_small out o c.used c.asked p h (leb-true c.used (length first.buffer) k.0) t.1 in
         let n-is : n ≡ length (pair_bytes p) = cc in
         let s : record { buffer = left; used = n } ≡ held out (moved (new_order (edit_of c.asked) o)) = (λ i. record { buffer = f i; used = n-is i }) ∙ d.1 in
         done (new_order (edit_of c.asked) o) d.0 (subst (λ (x : Held). EditCalls l x last) s more)
-    go (Refused g) (refused k) is e f more done =
+    go (Err g) (refused k) is e f more done =
         let s : record { buffer = left; used = first.used } ≡ first = λ i. record { buffer = f i; used = first.used } in
         done o h (subst (λ (x : Held). EditCalls l x last) s more)
-    go (Length n) (refused k) is e f more done = let z : ◌≡◌ {A = ℕ} 0 1 = cc in absurd (omega arith)
-    go (Refused g) (accepted p) is e f more done = let z : ◌≡◌ {A = ℕ} 0 1 = cc in absurd (omega arith)
+    go (Ok n) (refused k) is e f more done = let z : ◌≡◌ {A = ℕ} 0 1 = cc in absurd (omega arith)
+    go (Err g) (accepted p) is e f more done = let z : ◌≡◌ {A = ℕ} 0 1 = cc in absurd (omega arith)
 
 -- the same from an accepted move call
 record Ended (o : Order) (out : List ℕ) (l : List EditCall) (last : Held) : Type 0 where
@@ -144,7 +143,7 @@ run_as_fresh_move o out l last x w left w' r room y =
     let p : Pair = moved now in
     let a : said r ≡ accepted (length (pair_bytes p)) = rw (d.lent, room, m) at y.answer in
     let b : left ≡ filled pair_size out (pair_bytes p) = rw (d.lent, room, m) at y.result in
-    (said_once r (Length (length (pair_bytes p))) a ∙ ap (λ (h : Held). Length h.used) d.end, b ∙ ap (λ (h : Held). h.buffer) d.end)
+    (said_once r (Ok (length (pair_bytes p))) a ∙ ap (λ (h : Held). Ok h.used) d.end, b ∙ ap (λ (h : Held). h.buffer) d.end)
 
 -- what a call that is lent enough or not leaves of an edit that reading refuses
 refuses_length : (lent : Bool) (x : Outcome Pair) (out left : List ℕ) (r : Answer) → (lent ≡ true → x ≡ refused 3) → said r ≡ length_of pair_bytes (test lent 1 x)

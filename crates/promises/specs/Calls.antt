@@ -2,10 +2,9 @@
 -- given back). Assumes nothing.
 use Rattle.std.specs.Prelude.{◌≡◌, List, Bool, cond, ◌&&◌, ℕ}
 use Rattle.policy.specs.Fields.{box_size, record_size, Limits, limits, work_size}
-use Rattle.policy.specs.Refusals.{Outcome, test, and_then, unless, said}
+use Rattle.policy.specs.Refusals.{Answer, Outcome, test, and_then, unless, said}
 use Rattle.policy.specs.Move.{slots_of, room, Order, Pair, moved, gate_list, cell_list}
 use Rattle.policy.specs.Check.{check_refusal}
-use Rattle.policy.specs.declared.Answer.{Answer}
 use Rattle.wire.specs.Buffers.{room_for, zeroed, written, length_of, answered}
 use Rattle.sheet.specs.Orders.{order_in, gate_size, own_size, order_size}
 use Rattle.sheet.specs.Pairs.{pair_in, pair_bytes, pair_size}

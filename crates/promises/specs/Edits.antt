@@ -1,10 +1,9 @@
 -- Edit: a pair sheet in its buffer changed at one place (01, Calls and Numbers given back). Assumes nothing.
 use Rattle.std.specs.Prelude.{List, Bool, true, ◌&&◌, ℕ, leb, eqb, length, take}
 use Rattle.policy.specs.Fields.{record_size, Limits, limits, work_size}
-use Rattle.policy.specs.Refusals.{Outcome, test, and_then, unless}
+use Rattle.policy.specs.Refusals.{Answer, Outcome, test, and_then, unless}
 use Rattle.policy.specs.Move.{Pair}
 use Rattle.policy.specs.Edit.{Kind, insert, delete, replace, Edit, place_found, edited, change_refusal}
-use Rattle.policy.specs.declared.Answer.{Answer}
 use Rattle.wire.specs.Records.{rule_in}
 use Rattle.sheet.specs.Pairs.{pair_in, pair_bytes, pair_size}
 use Rattle.promises.specs.Calls.{Call}

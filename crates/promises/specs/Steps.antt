@@ -1,8 +1,7 @@
 -- What a call's inner part answers and leaves, once everything lent is long enough. Assumes nothing.
 use Rattle.std.specs.Prelude.{◌≡◌, List, ℕ, drop}
 use Rattle.policy.specs.Fields.{work_size}
-use Rattle.policy.specs.Refusals.{Outcome, said}
-use Rattle.policy.specs.declared.Answer.{Answer}
+use Rattle.policy.specs.Refusals.{Answer, Outcome, said}
 use Rattle.wire.specs.Buffers.{written, length_of}
 
 -- A result written to a buffer, or a refusal; nothing changed behind the work buffer's front.

@@ -1,18 +1,16 @@
 -- What whoever uses the calls may count on: demands 2 and 3, over the calls' own statements (`Moves`, `Checks`, `Edits`; `Lists`
 -- has the bytes of the two lists). Each theorem is a type here, with all that it asks for, and has one value in
 -- proofs/Theorems.antt; `PlannerTheorem` is all of them. Assumes nothing.
-use Rattle.std.specs.Prelude.{◌≡◌, List, [], ◌∷◌, true, cond, ℕ, ◌≤◌, length, take}
+use Rattle.std.specs.Prelude.{◌≡◌, List, [], ◌∷◌, true, cond, ℕ, ◌≤◌, length, take, Ok, Err}
 use Rattle.lists.specs.Lists.{Each}
 use Rattle.policy.specs.Fields.{Limits, limits, work_size}
 use Rattle.policy.specs.Ranges.{Packet}
 use Rattle.policy.specs.Rules.{drops, forwards}
 use Rattle.policy.specs.Cut.{any_has}
-use Rattle.policy.specs.Refusals.{accepted, refused, said}
+use Rattle.policy.specs.Refusals.{Answer, accepted, refused, said}
 use Rattle.policy.specs.Move.{together, Order, Pair, moved, gate_list, cell_list}
 use Rattle.policy.specs.Edit.{Edit, new_order, place_found, all_done}
 use Rattle.policy.specs.Demands.{DenyOnly, OthersKept}
-use Rattle.policy.specs.declared.Answer.{Answer}
-use Rattle.policy.specs.declared.Answer.TheVariants.{Length, Refused}
 use Rattle.wire.specs.Numbers.{Byte}
 use Rattle.wire.specs.Buffers.{filled, room_for}
 use Rattle.sheet.specs.Orders.{order_in, order_bytes, list_in}
@@ -48,7 +46,7 @@ pub record DemandTwo (lim : Limits) (s : List ℕ) (o : Order) (p : Pair) : Type
 -- is `move_of`, in the statement.)
 abbrev pub MoveTheorem : Type 0
 MoveTheorem =
-    (s out w left w' : List ℕ) (n : ℕ) → Each Byte s → Moves s out w (Length n) left w'
+    (s out w left w' : List ℕ) (n : ℕ) → Each Byte s → Moves s out w (Ok n) left w'
     → (o : Order) × (p : Pair) × DemandTwo limits s o p × (record { buffer = left; used = n } ≡ held out p)
 
 -- What check accepts is, byte for byte, what a move of its lists writes, and that move is accepted.
@@ -57,7 +55,7 @@ pub record CheckIsMove (lim : Limits) (s : List ℕ) (p : Pair) : Type 0 where
   pub moves : move_of lim (order_bytes p.order) ≡ accepted p
 
 abbrev pub CheckTheorem : Type 0
-CheckTheorem = (s w w' : List ℕ) (n : ℕ) → Each Byte s → Checks s w (Length n) w' → (p : Pair) × CheckIsMove limits s p
+CheckTheorem = (s w w' : List ℕ) (n : ℕ) → Each Byte s → Checks s w (Ok n) w' → (p : Pair) × CheckIsMove limits s p
 
 -- An edit call in a run: what it is asked for, the length that it is told, the work buffer that it is lent, and what it answers.
 pub record EditCall : Type 0 where
@@ -68,12 +66,12 @@ pub record EditCall : Type 0 where
 
 -- The length that was answered last, and the edits whose answers are a length.
 abbrev pub length_now : Answer → ℕ → ℕ
-length_now (Length n) used = n
-length_now (Refused f) used = used
+length_now (Ok n) used = n
+length_now (Err f) used = used
 
 abbrev pub if_length : Answer → Edit → List Edit → List Edit
-if_length (Length n) e l = e ∷ l
-if_length (Refused f) e l = l
+if_length (Ok n) e l = e ∷ l
+if_length (Err f) e l = l
 
 unfoldable pub accepted_edits : List EditCall → List Edit
 accepted_edits [] = []
@@ -94,7 +92,7 @@ pub record MoveAndEdits (o : Order) (out : List ℕ) (l : List EditCall) (last :
   pub answer : ℕ
   pub left : List ℕ
   pub work' : List ℕ
-  pub move : Moves sheet out work (Length answer) left work'
+  pub move : Moves sheet out work (Ok answer) left work'
   pub edits : EditCalls l (record { buffer = left; used = answer }) last
 
 -- Demand 3, a run: a move call of the lists, as the accepted edits have changed them one after another, into the same `out` is
@@ -103,7 +101,7 @@ abbrev pub RunTheorem : Type 0
 RunTheorem =
     (o : Order) (out : List ℕ) (l : List EditCall) (last : Held) → MoveAndEdits o out l last
     → (w left w' : List ℕ) (r : Answer) → room_for work_size w ≡ true → Moves (order_bytes (all_done (accepted_edits l) o)) out w r left w'
-    → (r ≡ Length last.used) × (left ≡ last.buffer)
+    → (r ≡ Ok last.used) × (left ≡ last.buffer)
 
 -- Demand 3, the length: a buffer that begins with a pair sheet of n bytes, whoever wrote it, and is told any other length. The
 -- answer is 1 where something lent is too short for what is said of it, else 3 by reading, whatever the edit; and the buffer is as
@@ -137,7 +135,7 @@ pub record FreshMove (o : Order) (r : Answer) (left : List ℕ) : Type 0 where
 -- same number.
 pub record SameAnswer (r q : Answer) (b c : List ℕ) : Type 0 where
   pub answer : r ≡ q
-  pub bytes : (n : ℕ) → r ≡ Length n → (n ≤ pair_size) × (take pair_size b ≡ take pair_size c)
+  pub bytes : (n : ℕ) → r ≡ Ok n → (n ≤ pair_size) × (take pair_size b ≡ take pair_size c)
 
 -- Demand 3, the next edit: it and a fresh move of the lists as it changes them answer the same.
 abbrev pub NextTheorem : Type 0
@@ -159,7 +157,7 @@ pub record OthersAsBefore (p s : Pair) (a : Asked) : Type 0 where
 
 abbrev pub OthersTheorem : Type 0
 OthersTheorem =
-    (buffer w left w' : List ℕ) (used n : ℕ) (a : Asked) → Edits buffer used a w (Length n) left w'
+    (buffer w left w' : List ℕ) (used n : ℕ) (a : Asked) → Edits buffer used a w (Ok n) left w'
     → (p : Pair) × (s : Pair) × (pair_in limits (take used buffer) ≡ accepted p) × (record { buffer = left; used = n } ≡ held buffer s) × OthersAsBefore p s a
 
 -- All of it.

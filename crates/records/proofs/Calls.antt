@@ -1,26 +1,25 @@
 -- Laws of the record calls: what each return of the code says, that two outcomes are equal, and that the calls undo each
 -- other. Assumes nothing.
+use Rattle.std.specs.Prelude.{Ok, Err}
 use mathlib.Core.Path.{◌≡◌, refl, ap, sym, ◌∙◌}
 use mathlib.Core.List.{List, [], ◌∷◌, ◌++◌, map, append_assoc}
-use mathlib.Core.Bool.{Bool, true, false, not}
+use mathlib.Core.Bool.{Bool, true, false}
 use Prim.Native.Nat.{ℕ, ◌+◌, ◌<◌, ◌≤◌}
 use native.Mathlib.Omega.{arith}
 use native.Mathlib.Numerals.{add-one}
 use lib.Dec.{leb, eqb}
 use lib.ListN.{length, take, drop, get_or, set, length-append, length-map, length-drop}
 use lib.Seq.{sets, sets-eq, take_at, drop_at, take-add, take-suc, length-take-le, get_or_at, get_or-drop, length-sets, take_all}
-use borrow.Author.Tests.{not-true, not-false, le-leb, lt-leb, eq-eqb, ne_eqb, leb-true, eqb-true}
+use borrow.Author.Tests.{le-leb, lt-leb, eq-eqb, ne_eqb, leb-true, eqb-true}
 use Rattle.lists.specs.Lists.{Each}
 use Rattle.lists.proofs.Lists.{append-none, sets-append}
 use Rattle.policy.specs.Fields.{fields, widths, record_size}
 use Rattle.policy.specs.Ranges.{Region}
 use Rattle.policy.specs.Rules.{Rule, rule, sound}
-use Rattle.policy.specs.Refusals.{Outcome, accepted, refused, test, number_of}
+use Rattle.policy.specs.Refusals.{Answer, Outcome, accepted, refused, test, number_of}
 use Rattle.policy.specs.Values.{ranges}
 use Rattle.policy.specs.declared.Refusal.{Refusal}
 use Rattle.policy.specs.declared.Refusal.TheVariants.{BufferShort, LengthWrong, RuleBad}
-use Rattle.policy.specs.declared.Answer.{Answer}
-use Rattle.policy.specs.declared.Answer.TheVariants.{Length, Refused}
 use Rattle.policy.proofs.Answers.{said_once}
 use Rattle.wire.specs.Numbers.{Byte}
 use Rattle.wire.specs.Records.{record_bytes, rule_in}
@@ -65,28 +64,28 @@ sound-length r h = fits-length widths r.region (sound_fits r h).0
 
 -- Reading, return by return.
 module _ (s ns : List ℕ) where
-  read_refused : (f : Refusal) → reading_of s ns ≡ refused (number_of f) → RecordRead s ns (Refused f) ns
+  read_refused : (f : Refusal) → reading_of s ns ≡ refused (number_of f) → RecordRead s ns (Err f) ns
   unfolding answered
   read_refused f e = record { answer = ap (answered 0) (sym e); numbers = refusal_leaves rule_numbers numbers_size ns e }
 
-  pub no_room : length ns < numbers_size → RecordRead s ns (Refused BufferShort) ns
+  pub no_room : length ns < numbers_size → RecordRead s ns (Err BufferShort) ns
   unfolding reading_of room_for
   no_room h = read_refused BufferShort (rw (lt-leb numbers_size (length ns) h) refl)
 
   module _ (room : numbers_size ≤ length ns) where
-    pub not_a_record : (length s ≡ record_size → ⊥) → RecordRead s ns (Refused LengthWrong) ns
+    pub not_a_record : (length s ≡ record_size → ⊥) → RecordRead s ns (Err LengthWrong) ns
     unfolding reading_of room_for
     not_a_record h = read_refused LengthWrong (rw (le-leb numbers_size (length ns) room, ne_eqb (length s) record_size h) refl)
 
     module _ (long : length s ≡ record_size) (r : Rule) (is : r ≡ rule_in s) (t : Bool) (e : t ≡ sound r) where
-      pub bad_record : not t ≡ true → RecordRead s ns (Refused RuleBad) ns
+      pub bad_record : t ≡ false → RecordRead s ns (Err RuleBad) ns
       unfolding reading_of room_for
-      bad_record h = read_refused RuleBad (rw (le-leb numbers_size (length ns) room, eq-eqb (length s) record_size long, ← is, ← e, not-true t h) refl)
+      bad_record h = read_refused RuleBad (rw (le-leb numbers_size (length ns) room, eq-eqb (length s) record_size long, ← is, ← e, h) refl)
 
-      pub record_read : not t ≡ false → (ns' : List ℕ) → ns' ≡ sets ns 0 (rule_numbers r) → RecordRead s ns (Length 0) ns'
+      pub record_read : t ≡ true → (ns' : List ℕ) → ns' ≡ sets ns 0 (rule_numbers r) → RecordRead s ns (Ok 0) ns'
       unfolding reading_of answered written room_for
       record_read h ns' u =
-          let g : sound r ≡ true = sym e ∙ not-false t h in
+          let g : sound r ≡ true = sym e ∙ h in
           let k : reading_of s ns ≡ accepted r = rw (le-leb numbers_size (length ns) room, eq-eqb (length s) record_size long, ← is, g) refl in
           record {
             answer = ap (answered 0) (sym k);
@@ -95,28 +94,28 @@ module _ (s ns : List ℕ) where
 
 -- Writing, return by return.
 module _ (ns out : List ℕ) where
-  write_refused : (f : Refusal) → writing_of ns out ≡ refused (number_of f) → RecordWritten ns out (Refused f) out
+  write_refused : (f : Refusal) → writing_of ns out ≡ refused (number_of f) → RecordWritten ns out (Err f) out
   unfolding answered
   write_refused f e = record { answer = ap (answered record_size) (sym e); bytes = refusal_leaves record_bytes record_size out e }
 
-  pub few_numbers : length ns < numbers_size → RecordWritten ns out (Refused BufferShort) out
+  pub few_numbers : length ns < numbers_size → RecordWritten ns out (Err BufferShort) out
   unfolding writing_of room_for
   few_numbers h = write_refused BufferShort (rw (lt-leb numbers_size (length ns) h) refl)
 
   module _ (all : numbers_size ≤ length ns) where
-    pub few_bytes : length out < record_size → RecordWritten ns out (Refused BufferShort) out
+    pub few_bytes : length out < record_size → RecordWritten ns out (Err BufferShort) out
     unfolding writing_of room_for
     few_bytes h = write_refused BufferShort (rw (le-leb numbers_size (length ns) all, lt-leb record_size (length out) h) refl)
 
     module _ (room : record_size ≤ length out) (r : Rule) (is : r ≡ numbers_rule ns) (t : Bool) (e : t ≡ sound r) where
-      pub bad_numbers : not t ≡ true → RecordWritten ns out (Refused RuleBad) out
+      pub bad_numbers : t ≡ false → RecordWritten ns out (Err RuleBad) out
       unfolding writing_of room_for
-      bad_numbers h = write_refused RuleBad (rw (le-leb numbers_size (length ns) all, le-leb record_size (length out) room, ← is, ← e, not-true t h) refl)
+      bad_numbers h = write_refused RuleBad (rw (le-leb numbers_size (length ns) all, le-leb record_size (length out) room, ← is, ← e, h) refl)
 
-      pub record_written : not t ≡ false → (out' : List ℕ) → out' ≡ sets out 0 (record_bytes r) → RecordWritten ns out (Length record_size) out'
+      pub record_written : t ≡ true → (out' : List ℕ) → out' ≡ sets out 0 (record_bytes r) → RecordWritten ns out (Ok record_size) out'
       unfolding writing_of answered written room_for
       record_written h out' u =
-          let g : sound r ≡ true = sym e ∙ not-false t h in
+          let g : sound r ≡ true = sym e ∙ h in
           let k : writing_of ns out ≡ accepted r = rw (le-leb numbers_size (length ns) all, le-leb record_size (length out) room, ← is, g) refl in
           record {
             answer = ap (answered record_size) (sym k);
@@ -177,7 +176,7 @@ unfolding answered
 through true k x m e = (refl, e)
 through false k x m e = let z : ◌≡◌ {A = ℕ} 0 1 = cc in absurd (omega arith)
 
-module _ (s ns : List ℕ) {n : ℕ} {ns' : List ℕ} (x : RecordRead s ns (Length n) ns') where
+module _ (s ns : List ℕ) {n : ℕ} {ns' : List ℕ} (x : RecordRead s ns (Ok n) ns') where
   read_passed : (numbers_size ≤ length ns) × (length s ≡ record_size) × (sound (rule_in s) ≡ true) × (ns' ≡ sets ns 0 (rule_numbers (rule_in s)))
   unfolding reading_of room_for
   read_passed =
@@ -189,7 +188,7 @@ module _ (s ns : List ℕ) {n : ℕ} {ns' : List ℕ} (x : RecordRead s ns (Leng
       let long = eqb-true (length s) record_size b.0 in
       (room, long, c.0, (rule_once x (record_read s ns room long v refl true (sym c.0) refl (sets ns 0 (rule_numbers v)) refl)).1)
 
-module _ (ns out : List ℕ) {n : ℕ} {out' : List ℕ} (x : RecordWritten ns out (Length n) out') where
+module _ (ns out : List ℕ) {n : ℕ} {out' : List ℕ} (x : RecordWritten ns out (Ok n) out') where
   written_passed : (numbers_size ≤ length ns) × (record_size ≤ length out) × (sound (numbers_rule ns) ≡ true) × (out' ≡ sets out 0 (record_bytes (numbers_rule ns)))
   unfolding writing_of room_for
   written_passed =
@@ -202,8 +201,8 @@ module _ (ns out : List ℕ) {n : ℕ} {out' : List ℕ} (x : RecordWritten ns o
       (all, room, c.0, (record_once x (record_written ns out all room v refl true (sym c.0) refl (sets out 0 (record_bytes v)) refl)).1)
 
 -- A sound rule that was written and is read gives the same numbers.
-pub record_then_rule : (ns out ms : List ℕ) {n : ℕ} {r : Answer} {out' ms' : List ℕ} → RecordWritten ns out (Length n) out' → numbers_size ≤ length ms
-    → RecordRead (take record_size out') ms r ms' → (r ≡ Length 0) × (take numbers_size ms' ≡ take numbers_size ns)
+pub record_then_rule : (ns out ms : List ℕ) {n : ℕ} {r : Answer} {out' ms' : List ℕ} → RecordWritten ns out (Ok n) out' → numbers_size ≤ length ms
+    → RecordRead (take record_size out') ms r ms' → (r ≡ Ok 0) × (take numbers_size ms' ≡ take numbers_size ns)
 record_then_rule ns out ms {out' = out'} x room y =
     let v : Rule = numbers_rule ns in
     let p = written_passed ns out x in
@@ -214,8 +213,8 @@ record_then_rule ns out ms {out' = out'} x room y =
     (o.0, ap (take numbers_size) o.1 ∙ (front_of_lem numbers_size ms (rule_numbers v) (numbers-length v (sound-length v p.2)) room ∙ numbers_from_rule ns p.0))
 
 -- The bytes of a good record that was read and is written are the same bytes.
-pub rule_then_record : (s ns out : List ℕ) {n : ℕ} {r : Answer} {ns' out' : List ℕ} → Each Byte s → RecordRead s ns (Length n) ns' → record_size ≤ length out
-    → RecordWritten ns' out r out' → (r ≡ Length record_size) × (take record_size out' ≡ s)
+pub rule_then_record : (s ns out : List ℕ) {n : ℕ} {r : Answer} {ns' out' : List ℕ} → Each Byte s → RecordRead s ns (Ok n) ns' → record_size ≤ length out
+    → RecordWritten ns' out r out' → (r ≡ Ok record_size) × (take record_size out' ≡ s)
 rule_then_record s ns out {ns' = ns'} b x room y =
     let v : Rule = rule_in s in
     let p = read_passed s ns x in

@@ -3,9 +3,8 @@ use Rattle.std.specs.Prelude.{◌≡◌, List, [], ◌∷◌, ◌++◌, map, ℕ
 use Rattle.policy.specs.Fields.{fields, record_size}
 use Rattle.policy.specs.Ranges.{Range}
 use Rattle.policy.specs.Rules.{Rule, rule, sound}
-use Rattle.policy.specs.Refusals.{Outcome, accepted, test, said}
+use Rattle.policy.specs.Refusals.{Answer, Outcome, accepted, test, said}
 use Rattle.policy.specs.Values.{ranges}
-use Rattle.policy.specs.declared.Answer.{Answer}
 use Rattle.wire.specs.Buffers.{room_for, written, answered}
 use Rattle.wire.specs.Records.{record_bytes, rule_in}
 

@@ -18,11 +18,7 @@ fn values_at(numbers: &[u32], at: usize) -> [u32; FIELDS]
     ensures { result ≡ take fields (drop at numbers.now) }
 {
     let mut values = [0u32; FIELDS];
-    let mut k: usize = 0;
-    while k < FIELDS {
-        values[k] = numbers[at + k];
-        k += 1;
-    }
+    values.copy_from_slice(&numbers[at..at + FIELDS]);
     values
 }
 
@@ -31,11 +27,7 @@ fn put_values(numbers: &mut [u32], at: usize, values: [u32; FIELDS])
     requires { at + fields ≤ length numbers.old }
     ensures { numbers.new ≡ sets numbers.old at values }
 {
-    let mut k: usize = 0;
-    while k < FIELDS {
-        numbers[at + k] = values[k];
-        k += 1;
-    }
+    numbers[at..at + FIELDS].copy_from_slice(&values);
 }
 
 // The rule that numbers give.
@@ -70,33 +62,30 @@ pub fn rule(bytes: &[u8], numbers: &mut [u32]) -> Answer
     ensures { RecordRead bytes.now numbers.old result numbers.new }
 {
     if numbers.len() < NUMBERS {
-        return Answer::Refused(Refusal::BufferShort);
+        return Err(Refusal::BufferShort);
     }
     if bytes.len() != RECORD_BYTES {
-        return Answer::Refused(Refusal::LengthWrong);
+        return Err(Refusal::LengthWrong);
     }
     let r = wire::rule_at(bytes, 0);
     if !r.is_sound() {
-        return Answer::Refused(Refusal::RuleBad);
+        return Err(Refusal::RuleBad);
     }
     put_numbers(numbers, r);
-    Answer::Length(0)
+    Ok(0)
 }
 
 // The numbers of a rule to its record's bytes.
 pub fn record(numbers: &[u32], bytes: &mut [u8]) -> Answer
     ensures { RecordWritten numbers.now bytes.old result bytes.new }
 {
-    if numbers.len() < NUMBERS {
-        return Answer::Refused(Refusal::BufferShort);
-    }
-    if bytes.len() < RECORD_BYTES {
-        return Answer::Refused(Refusal::BufferShort);
+    if numbers.len() < NUMBERS || bytes.len() < RECORD_BYTES {
+        return Err(Refusal::BufferShort);
     }
     let r = rule_of(numbers);
     if !r.is_sound() {
-        return Answer::Refused(Refusal::RuleBad);
+        return Err(Refusal::RuleBad);
     }
     wire::put_rule(bytes, 0, r);
-    Answer::Length(RECORD_BYTES)
+    Ok(RECORD_BYTES)
 }

@@ -5,53 +5,43 @@ use mathlib.Core.List.{List, ◌++◌}
 use Prim.Native.Nat.{ℕ, ◌<◌}
 use native.Mathlib.Omega.{arith}
 use lib.ListN.{length, take, drop, length-append}
+use Rattle.std.specs.Prelude.{Ok}
 use lib.Seq.{take_at, drop_at, drop-drop}
 use Rattle.lists.specs.Lists.{Each}
 use Rattle.policy.specs.Fields.{count_size, limits}
-use Rattle.policy.specs.Refusals.{accepted, refused, number_of}
+use Rattle.policy.specs.Refusals.{Answered, accepted}
 use Rattle.policy.specs.Move.{Order, Pair}
 use Rattle.policy.proofs.Refused.{list_refusal}
-use Rattle.policy.specs.declared.Refusal.{Refusal}
+use Rattle.policy.proofs.Answers.{given_value, given_laid}
 use Rattle.wire.specs.Numbers.{number_bytes, Byte}
 use Rattle.wire.proofs.Numbers.{number_bytes-length}
 use Rattle.wire.proofs.Records.{rules_in-length}
 use Rattle.sheet.specs.Orders.{order_in, order_bytes, list_in}
 use Rattle.sheet.specs.Pairs.{groups_bytes, pair_in, pair_bytes}
-use Rattle.sheet.specs.Steps.{rules_of, list_heard, ListLaid, OfRules, ListRead, OfOrder, order_at, order_heard, OrderLaid, OrderRead, OfPair, pair_at, pair_heard, PairLaid, PairRead}
+use Rattle.sheet.specs.Steps.{rules_of, ListLaid, ListRead, order_at, OrderLaid, OrderRead, pair_at, PairLaid, PairRead}
 use Rattle.sheet.specs.declared.Section.{Section}
-use Rattle.sheet.specs.declared.Section.TheVariants as S
 use Rattle.sheet.specs.declared.OrderLayout.{OrderLayout}
-use Rattle.sheet.specs.declared.OrderParts.{OrderParts}
-use Rattle.sheet.specs.declared.OrderParts.TheVariants as O
 use Rattle.sheet.specs.declared.PairLayout.{PairLayout}
-use Rattle.sheet.specs.declared.PairParts.{PairParts}
-use Rattle.sheet.specs.declared.PairParts.TheVariants as P
 use Rattle.wire.proofs.Lists.{list_bytes-length}
 use Rattle.sheet.proofs.Orders.{readable_fits, order_readable, order_written_back, list_readable, list_written_back}
 use Rattle.sheet.proofs.Pairs.{PairGood, pair_good, pair_written_back}
 use Rattle.wire.specs.Lists.{list_size, list_bytes}
 
 -- A list by itself.
-pub list_refused : {most : ℕ} {s : List ℕ} {r : Section} → ListRead most s r → (f : Refusal) → r ≡ S.Refused f → list_in most s ≡ refused (number_of f)
-unfolding list_heard
-list_refused {s = s} x f e = sym x.says ∙ ap (list_heard s) e
+pub record ListAccepted (most : ℕ) (s : List ℕ) (l : Section) : Type 0 where
+  pub reads : list_in most s ≡ accepted (rules_of l.count s)
+  pub readable : list_refusal most (rules_of l.count s) ≡ 0
+  pub bytes : list_bytes (rules_of l.count s) ≡ s
+  pub laid : ListLaid most s l
 
-pub record ListAccepted (most : ℕ) (s : List ℕ) (n next : ℕ) : Type 0 where
-  pub reads : list_in most s ≡ accepted (rules_of n s)
-  pub readable : list_refusal most (rules_of n s) ≡ 0
-  pub bytes : list_bytes (rules_of n s) ≡ s
-  pub laid : ListLaid most s n next
-
-pub list_accepted :
-    {most : ℕ} {s : List ℕ} {r : Section} → ListRead most s r → Each Byte s → (n next : ℕ) → r ≡ S.Rules n next → ListAccepted most s n next
-unfolding list_heard OfRules
-list_accepted {most} {s} x b n next e =
-    let p : list_in most s ≡ accepted (rules_of n s) = sym x.says ∙ ap (list_heard s) e in
+pub list_accepted : {most : ℕ} {s : List ℕ} {r : Answered Section} → ListRead most s r → Each Byte s → (l : Section) → r ≡ Ok l → ListAccepted most s l
+list_accepted {most} {s} x b l e =
+    let p : list_in most s ≡ accepted (rules_of l.count s) = given_value x l e in
     record {
       reads = p;
-      readable = list_readable most s (rules_of n s) p;
-      bytes = list_written_back most s (rules_of n s) p b;
-      laid = rw e at x.laid;
+      readable = list_readable most s (rules_of l.count s) p;
+      bytes = list_written_back most s (rules_of l.count s) p b;
+      laid = given_laid x l e;
     }
 
 -- Where a section's bytes end.
@@ -60,10 +50,6 @@ section_end most n s h e =
     list_bytes-length (rules_of n s) (readable_fits most (rules_of n s) h e).rules ∙ ap (λ (k : ℕ). list_size k) (rules_in-length n (drop count_size s))
 
 -- An order sheet.
-pub order_refused : {s : List ℕ} {r : OrderParts} → OrderRead s r → (f : Refusal) → r ≡ O.Refused f → order_in limits s ≡ refused (number_of f)
-unfolding order_heard
-order_refused {s} x f e = sym x.says ∙ ap (order_heard s) e
-
 pub record OrderAccepted (s : List ℕ) (l : OrderLayout) : Type 0 where
   pub reads : order_in limits s ≡ accepted (order_at l s)
   pub gate_readable : list_refusal limits.gate (rules_of l.gate s) ≡ 0
@@ -72,13 +58,13 @@ pub record OrderAccepted (s : List ℕ) (l : OrderLayout) : Type 0 where
   pub own_bytes : list_bytes (rules_of l.own (drop l.middle s)) ≡ drop l.middle s
   pub laid : OrderLaid s l
 
-pub order_accepted : {s : List ℕ} {r : OrderParts} → OrderRead s r → Each Byte s → (l : OrderLayout) → r ≡ O.Parts l → OrderAccepted s l
-unfolding order_heard OfOrder order_bytes
+pub order_accepted : {s : List ℕ} {r : Answered OrderLayout} → OrderRead s r → Each Byte s → (l : OrderLayout) → r ≡ Ok l → OrderAccepted s l
+unfolding order_bytes
 order_accepted {s} x b l e =
     let o : Order = order_at l s in
     let middle : ℕ = l.middle in
-    let p : OrderLaid s l = rw e at x.laid in
-    let q : order_in limits s ≡ accepted o = sym x.says ∙ ap (order_heard s) e in
+    let p : OrderLaid s l = given_laid x l e in
+    let q : order_in limits s ≡ accepted o = given_value x l e in
     let f = order_readable limits s o q in
     let k : list_bytes o.gate ++ list_bytes o.own ≡ s = order_written_back limits s o q b in
     let m : length (list_bytes o.gate) ≡ middle = section_end limits.gate l.gate s (omega arith) f.0 ∙ sym p.lists.gate_end in
@@ -92,10 +78,6 @@ order_accepted {s} x b l e =
     }
 
 -- A pair sheet.
-pub pair_refused : {s : List ℕ} {r : PairParts} → PairRead s r → (f : Refusal) → r ≡ P.Refused f → pair_in limits s ≡ refused (number_of f)
-unfolding pair_heard
-pair_refused {s} x f e = sym x.says ∙ ap (pair_heard s) e
-
 pub record PairAccepted (s : List ℕ) (l : PairLayout) : Type 0 where
   pub reads : pair_in limits s ≡ accepted (pair_at l s)
   pub good : PairGood limits (pair_at l s)
@@ -104,13 +86,13 @@ pub record PairAccepted (s : List ℕ) (l : PairLayout) : Type 0 where
   pub group_bytes : groups_bytes (pair_at l s).groups ≡ drop l.from s
   pub laid : PairLaid s l
 
-pub pair_accepted : {s : List ℕ} {r : PairParts} → PairRead s r → Each Byte s → (l : PairLayout) → r ≡ P.Parts l → PairAccepted s l
-unfolding pair_heard OfPair pair_bytes order_bytes
+pub pair_accepted : {s : List ℕ} {r : Answered PairLayout} → PairRead s r → Each Byte s → (l : PairLayout) → r ≡ Ok l → PairAccepted s l
+unfolding pair_bytes order_bytes
 pair_accepted {s} x b l e =
     let third : ℕ = l.order.end in
     let p : Pair = pair_at l s in
-    let q : pair_in limits s ≡ accepted p = sym x.says ∙ ap (pair_heard s) e in
-    let w : PairLaid s l = rw e at x.laid in
+    let q : pair_in limits s ≡ accepted p = given_value x l e in
+    let w : PairLaid s l = given_laid x l e in
     let g = pair_good limits s p q (omega arith) in
     let k = pair_written_back limits s p q b in
     let gate : List ℕ = list_bytes p.order.gate in

@@ -9,10 +9,11 @@ use lib.Dec.{leb}
 use lib.ListN.{length, take, drop, length-append, length-drop}
 use lib.Seq.{drop-drop}
 use borrow.Author.Tests.{not-true, not-false, le-leb, lt-leb}
+use Rattle.std.specs.Prelude.{Ok, Err}
 use Rattle.lists.specs.Lists.{every}
 use Rattle.policy.specs.Fields.{Limits, highest, box_size, count_size}
 use Rattle.policy.specs.Ranges.{Region, proper}
-use Rattle.policy.specs.Refusals.{Outcome, accepted, refused, test, and_then, number_of}
+use Rattle.policy.specs.Refusals.{Answered, Outcome, accepted, refused, test, and_then, number_of}
 use Rattle.policy.specs.Move.{together}
 use Rattle.policy.specs.declared.Refusal.{Refusal}
 use Rattle.policy.specs.declared.Refusal.TheVariants.{LengthWrong, RuleBad, TooManyBoxes}
@@ -20,9 +21,9 @@ use Rattle.wire.specs.Records.{boxes_in}
 use Rattle.wire.proofs.Records.{boxes_in-length}
 use Rattle.sheet.specs.Sections.{Reading, reading}
 use Rattle.sheet.specs.Pairs.{group_size, group_boxes, behind, groups_in}
-use Rattle.sheet.specs.Steps.{with_total, groups_from, groups_heard, GroupsLaid, OfBoxes, GroupsRead}
+use Rattle.sheet.specs.Steps.{with_total, groups_from, GroupsRead}
 use Rattle.sheet.specs.declared.Groups.{Groups}
-use Rattle.sheet.specs.declared.Groups.TheVariants.{Boxes, Refused}
+use Rattle.policy.proofs.Answers.{gives_refusal, given_refusal, given_value, given_laid}
 use Rattle.sheet.proofs.Parts.{part_from}
 use Rattle.wire.specs.Lists.{count_in}
 
@@ -30,27 +31,22 @@ one_group_lem : (s : List ℕ) → length (together (groups_from 1 s)) ≡ count
 unfolding together groups_from
 one_group_lem s = rw append-nil (boxes_in-length (count_in s) (drop count_size s))
 
-module _ (most n total : ℕ) (s : List ℕ) where
-  groups_refuses : (f : Refusal) → groups_in (with_total most) n total s ≡ refused (number_of f) → GroupsRead most n total s (Refused f)
-  unfolding groups_heard OfBoxes
-  groups_refuses f e = record { says = sym e; laid = tt }
-
 -- One group.
 module _ (most total : ℕ) (s : List ℕ) where
-  pub no_count : length s < count_size → GroupsRead most 1 total s (Refused LengthWrong)
+  pub no_count : length s < count_size → GroupsRead most 1 total s (Err LengthWrong)
   unfolding groups_in
-  no_count h = groups_refuses most 1 total s LengthWrong (rw (lt-leb count_size (length s) h) refl)
+  no_count h = gives_refusal LengthWrong (rw (lt-leb count_size (length s) h) refl)
 
   module _ (w : total ≤ most) (a : count_size ≤ length s) (n : ℕ) (e : n ≡ count_in s) where
-    pub too_many : most - total < n → GroupsRead most 1 total s (Refused TooManyBoxes)
+    pub too_many : most - total < n → GroupsRead most 1 total s (Err TooManyBoxes)
     unfolding groups_in
-    too_many h = groups_refuses most 1 total s TooManyBoxes (rw (le-leb count_size (length s) a, ← e, lt-leb (total + n) most (omega arith)) refl)
+    too_many h = gives_refusal TooManyBoxes (rw (le-leb count_size (length s) a, ← e, lt-leb (total + n) most (omega arith)) refl)
 
     module _ (b : n ≤ most - total) where
-      pub no_boxes : length s < group_size n → GroupsRead most 1 total s (Refused LengthWrong)
+      pub no_boxes : length s < group_size n → GroupsRead most 1 total s (Err LengthWrong)
       unfolding groups_in
       no_boxes h =
-          groups_refuses most 1 total s LengthWrong
+          gives_refusal LengthWrong
           (rw (le-leb count_size (length s) a, ← e, le-leb (total + n) most (omega arith), lt-leb (group_size n) (length s) h) refl)
 
       module _ (g : group_size n ≤ length s) (v : Bool) (k : v ≡ every (proper highest) (boxes_in n (drop count_size s))) where
@@ -60,34 +56,15 @@ module _ (most total : ℕ) (s : List ℕ) where
         unfolding groups_in
         there = rw (le-leb count_size (length s) a, ← e, le-leb (total + n) most (omega arith), le-leb (group_size n) (length s) g, k) refl
 
-        pub bad_box : not v ≡ true → GroupsRead most 1 total s (Refused RuleBad)
-        bad_box h = groups_refuses most 1 total s RuleBad (there ∙ rw (not-true v h) refl)
+        pub bad_box : not v ≡ true → GroupsRead most 1 total s (Err RuleBad)
+        bad_box h = gives_refusal RuleBad (there ∙ rw (not-true v h) refl)
 
-        pub group_read : not v ≡ false → GroupsRead most 1 total s (Boxes n (group_size n))
-        unfolding groups_heard groups_from OfBoxes
+        pub group_read : not v ≡ false → GroupsRead most 1 total s (Ok (record { count = n; next = group_size n }))
+        unfolding groups_from
         group_read h = record {
           says = sym (there ∙ rw (not-false v h, e) refl);
           laid = record { boxes = e ∙ sym (one_group_lem s); end = omega arith; inside = g; limit = omega arith };
         }
-
--- The answer, by its cases.
-pub groups_refusal :
-    {most n total : ℕ} {s : List ℕ} {r : Groups} → GroupsRead most n total s r → (f : Refusal) → r ≡ Refused f
-    → groups_in (with_total most) n total s ≡ refused (number_of f)
-unfolding groups_heard
-groups_refusal {n = n} {s = s} x f e = sym x.says ∙ ap (groups_heard n s) e
-
-pub groups_boxes :
-    {most n total : ℕ} {s : List ℕ} {r : Groups} → GroupsRead most n total s r → (count next : ℕ) → r ≡ Boxes count next
-    → groups_in (with_total most) n total s ≡ accepted (reading (groups_from n s) (drop next s))
-unfolding groups_heard
-groups_boxes {n = n} {s = s} x count next e = sym x.says ∙ ap (groups_heard n s) e
-
-pub groups_laid :
-    {most n total : ℕ} {s : List ℕ} {r : Groups} → GroupsRead most n total s r → (count next : ℕ) → r ≡ Boxes count next
-    → GroupsLaid most n total s count next
-unfolding OfBoxes
-groups_laid x count next e = rw e at x.laid
 
 -- What a loop over n groups has to do at turn i: those that are left, from a byte on, with a total so far.
 pub record GroupsLeft (lim : Limits) (n own : ℕ) (s : List ℕ) (i total at : ℕ) : Type 0 where
@@ -151,37 +128,37 @@ module _ (lim : Limits) (k total : ℕ) (s : List ℕ) where
 
 -- A turn of the loop: from what the reader of one group ensures of the part that it is handed.
 module _ {most n own i total at : ℕ} {s : List ℕ} (g : GroupsLeft (with_total most) n own s i total at) where
-  part : {r : Groups} → GroupsRead most 1 total (take (length s - at) (drop at s)) r → GroupsRead most 1 total (drop at s) r
+  part : {r : Answered Groups} → GroupsRead most 1 total (take (length s - at) (drop at s)) r → GroupsRead most 1 total (drop at s) r
   part x = rw (part_from s at) at x
 
-  module _ (h : i < n) {r : Groups} (x : GroupsRead most 1 total (take (length s - at) (drop at s)) r) where
+  module _ (h : i < n) {r : Answered Groups} (x : GroupsRead most 1 total (take (length s - at) (drop at s)) r) where
     again : n - i ≡ suc (n - (i + 1))
     again = omega arith
 
-    pub groups_stop : (f : Refusal) → r ≡ Refused f → GroupsRead most n own s (Refused f)
+    pub groups_stop : (f : Refusal) → r ≡ Err f → GroupsRead most n own s (Err f)
     groups_stop f e =
-        groups_refuses most n own s f
-        (g.refuses (number_of f) (rw again (group_refused (with_total most) (n - (i + 1)) total (drop at s) (number_of f) (groups_refusal (part x) f e))))
+        gives_refusal f
+        (g.refuses (number_of f) (rw again (group_refused (with_total most) (n - (i + 1)) total (drop at s) (number_of f) (given_refusal (part x) f e))))
 
-    module _ (count next : ℕ) (e : r ≡ Boxes count next) where
+    module _ (l : Groups) (e : r ≡ Ok l) where
       turn : groups_in (with_total most) (n - i) total (drop at s) ≡ rest (with_total most) (n - (i + 1)) total (drop at s)
-      turn = rw again (group_passed (with_total most) (n - (i + 1)) total (drop at s) _ (groups_boxes (part x) count next e))
+      turn = rw again (group_passed (with_total most) (n - (i + 1)) total (drop at s) _ (given_value (part x) l e))
 
-      pub groups_next : GroupsLeft (with_total most) n own s (i + 1) (total + count) (at + next)
+      pub groups_next : GroupsLeft (with_total most) n own s (i + 1) (total + l.count) (at + l.next)
       unfolding groups_from together
       groups_next =
           let lim : Limits = with_total most in
           let u : List ℕ = drop at s in
           let k : ℕ = n - (i + 1) in
-          let p = groups_laid (part x) count next e in
+          let p = given_laid (part x) l e in
           let q = p.end in
-          let c : count_in u ≡ count = sym (p.boxes ∙ one_group_lem u) in
-          let d : group_size (count_in u) ≡ next = omega arith in
-          let v : drop (group_size (count_in u)) u ≡ drop (at + next) s = ap (λ (j : ℕ). drop j u) d ∙ drop-drop next at s in
-          let y : groups_in lim (n - i) total u ≡ and_then (groups_in lim k (total + count) (drop (at + next) s)) (λ r. accepted (behind (group_boxes u) r)) =
+          let c : count_in u ≡ l.count = sym (p.boxes ∙ one_group_lem u) in
+          let d : group_size (count_in u) ≡ l.next = omega arith in
+          let v : drop (group_size (count_in u)) u ≡ drop (at + l.next) s = ap (λ (j : ℕ). drop j u) d ∙ drop-drop l.next at s in
+          let y : groups_in lim (n - i) total u ≡ and_then (groups_in lim k (total + l.count) (drop (at + l.next) s)) (λ r. accepted (behind (group_boxes u) r)) =
           turn ∙ rw (v, c) refl in
-          let f : groups_from (n - i) u ≡ group_boxes u ∷ groups_from k (drop (at + next) s) = rw (again, v) refl in
-          let l = length-append (group_boxes u) (together (groups_from k (drop (at + next) s))) in
+          let f : groups_from (n - i) u ≡ group_boxes u ∷ groups_from k (drop (at + l.next) s) = rw (again, v) refl in
+          let sum = length-append (group_boxes u) (together (groups_from k (drop (at + l.next) s))) in
           let m = boxes_in-length (count_in u) (drop count_size u) in
           let o = g.boxes ∙ ap (λ (gs : List (List Region)). total + length (together gs)) f in
           let w = length-drop at s in
@@ -195,8 +172,8 @@ module _ {most n own i total at : ℕ} {s : List ℕ} (g : GroupsLeft (with_tota
             inside = omega (arith, g.inside, p.inside);
           }
 
-  pub groups_done : n ≤ i → GroupsRead most n own s (Boxes (total - own) at)
-  unfolding groups_heard OfBoxes groups_in groups_from together
+  pub groups_done : n ≤ i → GroupsRead most n own s (Ok (record { count = total - own; next = at }))
+  unfolding groups_in groups_from together
   groups_done h =
       let e : n - i ≡ 0 = omega arith in
       let x : groups_in (with_total most) (n - i) total (drop at s) ≡ accepted (reading (groups_from (n - i) (drop at s)) (drop at s)) = rw e refl in

@@ -1,16 +1,17 @@
 -- One turn of a loop over rules or boxes that stand one after another. Assumes nothing.
-use mathlib.Core.Path.{◌≡◌, refl, ap, sym, ◌∙◌}
+use mathlib.Core.Path.{◌≡◌, refl, ap, ap₂, sym, ◌∙◌}
 use mathlib.Core.List.{List, [], ◌∷◌}
-use mathlib.Core.Bool.{Bool, true, false, not, cond, ◌&&◌}
-use Prim.Native.Nat.{ℕ, suc, ◌+◌, ◌-◌, ◌<◌, ◌≤◌}
+use mathlib.Core.Bool.{Bool, true, false, cond, ◌&&◌}
+use Prim.Native.Nat.{ℕ, zero, suc, ◌+◌, ◌*◌, ◌-◌, ◌<◌, ◌≤◌}
 use native.Mathlib.Omega.{arith}
 use lib.ListN.{drop}
 use lib.Seq.{drop-drop}
-use borrow.Author.Tests.{not-true, not-false}
+use Rattle.std.specs.List.{list_all, range_with_len}
+use Rattle.std.proofs.Math.Nat.{mul-suc}
 use Rattle.lists.specs.Lists.{every}
-use Rattle.policy.specs.Fields.{box_size, record_size}
+use Rattle.policy.specs.Fields.{record_size}
 use Rattle.policy.specs.Rules.{Rule, is_allow, denies}
-use Rattle.wire.specs.Records.{box_in, boxes_in, rule_in, rules_in, each_in}
+use Rattle.wire.specs.Records.{rule_in, rules_in, each_in}
 
 -- What is left at turn i begins with the item that is reached.
 module _ {A : Type 0} (size : ℕ) (read : List ℕ → A) (read_all : ℕ → List ℕ → List A) where
@@ -32,30 +33,18 @@ pub no_rules : (n i : ℕ) (s : List ℕ) → n ≤ i → rules_in (n - i) s ≡
 unfolding each_in
 no_rules = none record_size rule_in rules_in (λ s. refl)
 
-pub boxes_left :
-    (n i at : ℕ) (s : List ℕ) → i < n → boxes_in (n - i) (drop at s) ≡ box_in (drop at s) ∷ boxes_in (n - (i + 1)) (drop (at + box_size) s)
-unfolding each_in
-boxes_left = left box_size (λ s. box_in s) boxes_in (λ n s. refl)
-
-pub no_boxes : (n i : ℕ) (s : List ℕ) → n ≤ i → boxes_in (n - i) s ≡ []
-unfolding each_in
-no_boxes = none box_size (λ s. box_in s) boxes_in (λ s. refl)
-
--- A test of every item.
-module _ {A : Type 0} (f : A → Bool) {l k : List A} {x a : A} {b : Bool} (e : l ≡ a ∷ k) (is : x ≡ a) (found : b ≡ f x) where
-  every_step : every f l ≡ (b && every f k)
-  unfolding every
-  every_step = ap (every f) e ∙ ap (λ (t : Bool). t && every f k) (sym (found ∙ ap f is))
-
-  pub every_stops : not b ≡ true → every f l ≡ false
-  every_stops h = every_step ∙ rw (not-true b h) refl
-
-  pub every_goes : not b ≡ false → every f l ≡ every f k
-  every_goes h = every_step ∙ rw (not-false b h) refl
-
-pub every_ends : {A : Type 0} (f : A → Bool) {l : List A} → l ≡ [] → every f l ≡ true
-unfolding every
-every_ends f e = ap (every f) e
+-- A test that says of the numbers from a on what f says of the items that stand one after another.
+module _ {A : Type 0} (size : ℕ) (read : List ℕ → A) (f : A → Bool) (test : ℕ → Bool) where
+  pub all_items : (n a at : ℕ) (s : List ℕ) → ((i : ℕ) → test (a + i) ≡ f (read (drop (at + size * i) s)))
+      → list_all test (range_with_len a n) ≡ every f (each_in size read n (drop at s))
+  unfolding every each_in
+  all_items zero a at s h = refl
+  all_items (suc n) a at s h =
+      let here : at + size * 0 ≡ at = omega arith in
+      let next : (i : ℕ) → test (a + 1 + i) ≡ f (read (drop (at + size + size * i) s)) =
+      λ i. let e = mul-suc size i in ap test (omega arith) ∙ (h (suc i) ∙ ap (λ (k : ℕ). f (read (drop k s))) (omega arith)) in
+      ap₂ (◌&&◌) (ap test (omega arith) ∙ (h 0 ∙ ap (λ (k : ℕ). f (read (drop k s))) here))
+      (all_items n (a + 1) (at + size) s next ∙ ap (λ (t : List ℕ). every f (each_in size read n t)) (sym (drop-drop size at s)))
 
 -- The deny rules among those that are left.
 module _ {l k : List Rule} {a : Rule} {b : Bool} (e : l ≡ a ∷ k) (is : b ≡ is_allow a) where
@@ -63,11 +52,11 @@ module _ {l k : List Rule} {a : Rule} {b : Bool} (e : l ≡ a ∷ k) (is : b ≡
   unfolding denies
   denies_step = ap denies e ∙ ap (λ (t : Bool). cond t (denies k) (suc (denies k))) (sym is)
 
-  pub deny_counts : not b ≡ true → denies l ≡ suc (denies k)
-  deny_counts h = denies_step ∙ rw (not-true b h) refl
+  pub deny_counts : b ≡ false → denies l ≡ suc (denies k)
+  deny_counts h = denies_step ∙ rw h refl
 
-  pub allow_skips : not b ≡ false → denies l ≡ denies k
-  allow_skips h = denies_step ∙ rw (not-false b h) refl
+  pub allow_skips : b ≡ true → denies l ≡ denies k
+  allow_skips h = denies_step ∙ rw h refl
 
 pub no_denies : {l : List Rule} → l ≡ [] → denies l ≡ 0
 unfolding denies

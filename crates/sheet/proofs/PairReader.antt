@@ -7,36 +7,28 @@ use native.Mathlib.Omega.{arith}
 use lib.ListN.{length, take, drop, length-drop}
 use lib.Seq.{drop-drop}
 use borrow.Author.Tests.{le-leb, lt-leb, eq-eqb, ne_eqb}
+use Rattle.std.specs.Prelude.{Ok, Err}
 use Rattle.policy.specs.Fields.{limits, count_size}
 use Rattle.policy.specs.Rules.{Rule, denies}
-use Rattle.policy.specs.Refusals.{refused, and_then, number_of}
+use Rattle.policy.specs.Refusals.{Answered, and_then}
 use Rattle.policy.specs.declared.Refusal.{Refusal}
 use Rattle.policy.specs.declared.Refusal.TheVariants.{LengthWrong, GroupsDiffer}
 use Rattle.wire.proofs.Records.{rules_in-length}
 use Rattle.sheet.specs.Orders.{ended, order}
 use Rattle.sheet.specs.Pairs.{groups_in, group_section, pair_in}
-use Rattle.sheet.specs.Steps.{rules_of, ListsLaid, ListsRead, GroupsRead, pair_heard, OfPair, PairRead}
+use Rattle.sheet.specs.Steps.{rules_of, ListsLaid, ListsRead, GroupsRead, PairRead}
 use Rattle.sheet.specs.declared.OrderLayout.{OrderLayout}
-use Rattle.sheet.specs.declared.OrderParts.{OrderParts}
-use Rattle.sheet.specs.declared.OrderParts.TheVariants as O
 use Rattle.sheet.specs.declared.Groups.{Groups}
-use Rattle.sheet.specs.declared.Groups.TheVariants as G
-use Rattle.sheet.specs.declared.PairParts.TheVariants as P
 use Rattle.sheet.proofs.Parts.{part_from}
-use Rattle.sheet.proofs.OrderReader.{lists_refusal, lists_parts, lists_laid}
-use Rattle.sheet.proofs.GroupReader.{groups_refusal, groups_boxes, groups_laid}
+use Rattle.policy.proofs.Answers.{gives_refusal, given_refusal, given_value, given_laid}
 use Rattle.wire.specs.Lists.{count_in, list_size}
 
-pair_refuses : {s : List ℕ} (f : Refusal) → pair_in limits s ≡ refused (number_of f) → PairRead s (P.Refused f)
-unfolding pair_heard OfPair
-pair_refuses f e = record { says = sym e; laid = tt }
-
-module _ {s : List ℕ} {r : OrderParts} (x : ListsRead s r) where
-  pub pair_refusal : (f : Refusal) → r ≡ O.Refused f → PairRead s (P.Refused f)
+module _ {s : List ℕ} {r : Answered OrderLayout} (x : ListsRead s r) where
+  pub pair_refusal : (f : Refusal) → r ≡ Err f → PairRead s (Err f)
   unfolding pair_in
-  pair_refusal f e = pair_refuses f (rw (lists_refusal x f e) refl)
+  pair_refusal f e = gives_refusal f (rw (given_refusal x f e) refl)
 
-  module _ (l : OrderLayout) (e : r ≡ O.Parts l) where
+  module _ (l : OrderLayout) (e : r ≡ Ok l) where
     abbrev third : ℕ
     third = l.end
 
@@ -44,7 +36,7 @@ module _ {s : List ℕ} {r : OrderParts} (x : ListsRead s r) where
     m = l.own
 
     laid : ListsLaid s l
-    laid = lists_laid x l e
+    laid = given_laid x l e
 
     pub third_inside : third ≤ length s
     third_inside = laid.inside
@@ -63,19 +55,19 @@ module _ {s : List ℕ} {r : OrderParts} (x : ListsRead s r) where
 
     behind : pair_in limits s ≡ group_section limits (order gate own) (drop third s)
     unfolding pair_in
-    behind = rw (lists_parts x l e) refl
+    behind = rw (given_value x l e) refl
 
-    pub no_group_count : length s - third < count_size → PairRead s (P.Refused LengthWrong)
+    pub no_group_count : length s - third < count_size → PairRead s (Err LengthWrong)
     unfolding group_section
-    no_group_count h = pair_refuses LengthWrong (behind ∙ rw (lt-leb count_size (length (drop third s)) (rw length-drop h)) refl)
+    no_group_count h = gives_refusal LengthWrong (behind ∙ rw (lt-leb count_size (length (drop third s)) (rw length-drop h)) refl)
 
     module _ (a : count_size ≤ length s - third) (k : ℕ) (d : k ≡ denies gate) (v : ℕ) (c : v ≡ count_in (drop third s)) where
-      pub groups_differ : (v ≡ k → ⊥) → PairRead s (P.Refused GroupsDiffer)
+      pub groups_differ : (v ≡ k → ⊥) → PairRead s (Err GroupsDiffer)
       unfolding group_section
       groups_differ h =
-          pair_refuses GroupsDiffer (behind ∙ rw (le-leb count_size (length (drop third s)) (rw length-drop a), ← c, ← d, ne_eqb v k h) refl)
+          gives_refusal GroupsDiffer (behind ∙ rw (le-leb count_size (length (drop third s)) (rw length-drop a), ← c, ← d, ne_eqb v k h) refl)
 
-      module _ (q : v ≡ k) {t : Groups} (y : GroupsRead limits.total k m (take (length s - (third + count_size)) (drop (third + count_size) s)) t) where
+      module _ (q : v ≡ k) {t : Answered Groups} (y : GroupsRead limits.total k m (take (length s - (third + count_size)) (drop (third + count_size) s)) t) where
         groups : GroupsRead limits.total k m (drop (third + count_size) s) t
         groups = rw (part_from s (third + count_size)) at y
 
@@ -94,32 +86,31 @@ module _ {s : List ℕ} {r : OrderParts} (x : ListsRead s r) where
               rules_in-length m (drop count_size (drop l.middle s)),
             )
 
-        pub third_refusal : (f : Refusal) → t ≡ G.Refused f → PairRead s (P.Refused f)
-        third_refusal f i = pair_refuses f (counted ∙ rw (groups_refusal groups f i) refl)
+        pub third_refusal : (f : Refusal) → t ≡ Err f → PairRead s (Err f)
+        third_refusal f i = gives_refusal f (counted ∙ rw (given_refusal groups f i) refl)
 
-        module _ (boxes next : ℕ) (i : t ≡ G.Boxes boxes next) where
-          left : length (drop next (drop (third + count_size) s)) ≡ length s - (third + count_size) - next
-          left = length-drop next (drop (third + count_size) s) ∙ ap (λ (j : ℕ). j - next) (length-drop (third + count_size) s)
+        module _ (c' : Groups) (i : t ≡ Ok c') where
+          left : length (drop c'.next (drop (third + count_size) s)) ≡ length s - (third + count_size) - c'.next
+          left = length-drop c'.next (drop (third + count_size) s) ∙ ap (λ (j : ℕ). j - c'.next) (length-drop (third + count_size) s)
 
-          pub groups_inside : third + count_size + next ≤ length s
-          groups_inside = let p = rw length-drop at (groups_laid groups boxes next i).inside in omega arith
+          pub groups_inside : third + count_size + c'.next ≤ length s
+          groups_inside = let p = rw length-drop at (given_laid groups c' i).inside in omega arith
 
-          pub pair_over : next < length s - (third + count_size) → PairRead s (P.Refused LengthWrong)
+          pub pair_over : c'.next < length s - (third + count_size) → PairRead s (Err LengthWrong)
           pair_over h =
-              pair_refuses LengthWrong
-              (counted ∙ rw (groups_boxes groups boxes next i, ne_eqb (length (drop next (drop (third + count_size) s))) 0 (λ z. omega (arith, left))) refl)
+              gives_refusal LengthWrong
+              (counted ∙ rw (given_value groups c' i, ne_eqb (length (drop c'.next (drop (third + count_size) s))) 0 (λ z. omega (arith, left))) refl)
 
           pub pair_read :
-              length s - (third + count_size) ≤ next
-              → PairRead s (P.Parts (record { order = l; groups = k; boxes = boxes; from = third + count_size; end = third + count_size + next }))
-          unfolding pair_heard OfPair
+              length s - (third + count_size) ≤ c'.next
+              → PairRead s (Ok (record { order = l; groups = k; boxes = c'.count; from = third + count_size; end = third + count_size + c'.next }))
           pair_read h =
-              let p = groups_laid groups boxes next i in
+              let p = given_laid groups c' i in
               let inside = groups_inside in
               record {
                 says =
                     sym (counted
-                    ∙ rw (groups_boxes groups boxes next i, eq-eqb (length (drop next (drop (third + count_size) s))) 0 (omega (arith, left))) refl);
+                    ∙ rw (given_value groups c' i, eq-eqb (length (drop c'.next (drop (third + count_size) s))) 0 (omega (arith, left))) refl);
                 laid = record {
                   lists = laid;
                   begin = refl;

@@ -8,19 +8,20 @@ use native.Mathlib.Omega.{arith}
 use lib.ListN.{length, drop, length-drop}
 use lib.Seq.{drop-drop}
 use borrow.Author.Tests.{not-true, not-false, le-leb, lt-leb, eq-eqb, ne_eqb}
+use Rattle.std.specs.Prelude.{Ok, Err}
 use Rattle.lists.specs.Lists.{every}
 use Rattle.policy.specs.Fields.{count_size, record_size, highest}
 use Rattle.policy.specs.Ranges.{Region, is_full}
 use Rattle.policy.specs.Rules.{sound, complete}
-use Rattle.policy.specs.Refusals.{accepted, refused, test, number_of}
+use Rattle.policy.specs.Refusals.{Answered, accepted, test}
 use Rattle.policy.specs.declared.Refusal.{Refusal}
 use Rattle.policy.specs.declared.Refusal.TheVariants.{CountOutside, LengthWrong, RuleBad, NotComplete}
 use Rattle.wire.specs.Records.{box_in, rule_in, rules_in, each_in}
 use Rattle.sheet.specs.Sections.{reading, section}
 use Rattle.sheet.specs.Orders.{list_in}
-use Rattle.sheet.specs.Steps.{rules_of, section_heard, SectionLaid, OfRules, SectionRead, list_heard, ListRead}
+use Rattle.sheet.specs.Steps.{rules_of, SectionRead, ListRead}
 use Rattle.sheet.specs.declared.Section.{Section}
-use Rattle.sheet.specs.declared.Section.TheVariants.{Rules, Refused}
+use Rattle.policy.proofs.Answers.{gives_refusal, given_refusal, given_value, given_laid}
 use Rattle.wire.specs.Lists.{count_in, list_size}
 
 -- The last of n rules, where the code finds it.
@@ -38,29 +39,25 @@ complete_last (suc n) s h =
     complete_at n (drop count_size s) ∙ rw (drop-drop (record_size * n) count_size s, e) refl
 
 module _ (most : ℕ) (s : List ℕ) where
-  section_refuses : (f : Refusal) → section most s ≡ refused (number_of f) → SectionRead most s (Refused f)
-  unfolding section_heard OfRules
-  section_refuses f e = record { says = sym e; laid = tt }
-
-  pub no_count : length s < count_size → SectionRead most s (Refused LengthWrong)
+  pub no_count : length s < count_size → SectionRead most s (Err LengthWrong)
   unfolding section
-  no_count h = section_refuses LengthWrong (rw (lt-leb count_size (length s) h) refl)
+  no_count h = gives_refusal LengthWrong (rw (lt-leb count_size (length s) h) refl)
 
   module _ (a : count_size ≤ length s) (n : ℕ) (e : n ≡ count_in s) where
-    pub too_few : n < 1 → SectionRead most s (Refused CountOutside)
+    pub too_few : n < 1 → SectionRead most s (Err CountOutside)
     unfolding section
-    too_few h = section_refuses CountOutside (rw (le-leb count_size (length s) a, ← e, lt-leb 1 n h) refl)
+    too_few h = gives_refusal CountOutside (rw (le-leb count_size (length s) a, ← e, lt-leb 1 n h) refl)
 
     module _ (b : 1 ≤ n) where
-      pub too_many : most < n → SectionRead most s (Refused CountOutside)
+      pub too_many : most < n → SectionRead most s (Err CountOutside)
       unfolding section
-      too_many h = section_refuses CountOutside (rw (le-leb count_size (length s) a, ← e, le-leb 1 n b, lt-leb n most h) refl)
+      too_many h = gives_refusal CountOutside (rw (le-leb count_size (length s) a, ← e, le-leb 1 n b, lt-leb n most h) refl)
 
       module _ (d : n ≤ most) where
-        pub no_records : length s < list_size n → SectionRead most s (Refused LengthWrong)
+        pub no_records : length s < list_size n → SectionRead most s (Err LengthWrong)
         unfolding section
         no_records h =
-            section_refuses LengthWrong (rw (le-leb count_size (length s) a, ← e, le-leb 1 n b, le-leb n most d, lt-leb (list_size n) (length s) h) refl)
+            gives_refusal LengthWrong (rw (le-leb count_size (length s) a, ← e, le-leb 1 n b, le-leb n most d, lt-leb (list_size n) (length s) h) refl)
 
         module _ (g : list_size n ≤ length s) where
           there :
@@ -69,8 +66,8 @@ module _ (most : ℕ) (s : List ℕ) where
           unfolding section
           there = rw (le-leb count_size (length s) a, ← e, le-leb 1 n b, le-leb n most d, le-leb (list_size n) (length s) g) refl
 
-          pub bad_rule : (v : Bool) → v ≡ every sound (rules_of n s) → not v ≡ true → SectionRead most s (Refused RuleBad)
-          bad_rule v k h = section_refuses RuleBad (there ∙ rw (sym k ∙ not-true v h) refl)
+          pub bad_rule : (v : Bool) → v ≡ every sound (rules_of n s) → not v ≡ true → SectionRead most s (Err RuleBad)
+          bad_rule v k h = gives_refusal RuleBad (there ∙ rw (sym k ∙ not-true v h) refl)
 
           -- what the code finds of the records and of the last rule
           module _ (v : Bool) (k : v ≡ every sound (rules_of n s)) (h : not v ≡ false) (u : Bool) (x : Region) (q : u ≡ is_full highest x)
@@ -78,54 +75,33 @@ module _ (most : ℕ) (s : List ℕ) where
             last_is : complete (rules_of n s) ≡ u
             last_is = complete_last n s b ∙ (sym (ap (is_full highest) y) ∙ sym q)
 
-            pub not_full : not u ≡ true → SectionRead most s (Refused NotComplete)
-            not_full l = section_refuses NotComplete (there ∙ rw (sym k ∙ not-false v h, last_is ∙ not-true u l) refl)
+            pub not_full : not u ≡ true → SectionRead most s (Err NotComplete)
+            not_full l = gives_refusal NotComplete (there ∙ rw (sym k ∙ not-false v h, last_is ∙ not-true u l) refl)
 
-            pub section_read : not u ≡ false → SectionRead most s (Rules n (list_size n))
-            unfolding section_heard OfRules
+            pub section_read : not u ≡ false → SectionRead most s (Ok (record { count = n; next = list_size n }))
             section_read l = record {
               says = sym (there ∙ rw (sym k ∙ not-false v h, last_is ∙ not-false u l) refl);
               laid = record { end = refl; inside = g; limit = d };
             }
 
--- The section reader's answer, by its cases.
-pub section_refusal : {most : ℕ} {s : List ℕ} {r : Section} → SectionRead most s r → (f : Refusal) → r ≡ Refused f → section most s ≡ refused (number_of f)
-unfolding section_heard
-section_refusal {s = s} x f e = sym x.says ∙ ap (section_heard s) e
-
-pub section_rules :
-    {most : ℕ} {s : List ℕ} {r : Section} → SectionRead most s r → (n next : ℕ) → r ≡ Rules n next
-    → section most s ≡ accepted (reading (rules_of n s) (drop next s))
-unfolding section_heard
-section_rules {s = s} x n next e = sym x.says ∙ ap (section_heard s) e
-
-pub section_laid : {most : ℕ} {s : List ℕ} {r : Section} → SectionRead most s r → (n next : ℕ) → r ≡ Rules n next → SectionLaid most s n next
-unfolding OfRules
-section_laid x n next e = rw e at x.laid
-
 -- A list by itself.
-module _ {most : ℕ} {s : List ℕ} where
-  list_refuses : (f : Refusal) → list_in most s ≡ refused (number_of f) → ListRead most s (Refused f)
-  unfolding list_heard OfRules
-  list_refuses f e = record { says = sym e; laid = tt }
+module _ {most : ℕ} {s : List ℕ} {r : Answered Section} (x : SectionRead most s r) where
+  pub list_refusal_lem : (f : Refusal) → r ≡ Err f → ListRead most s (Err f)
+  unfolding list_in
+  list_refusal_lem f e = gives_refusal f (rw (given_refusal x f e) refl)
 
-  module _ {r : Section} (x : SectionRead most s r) where
-    pub list_refusal_lem : (f : Refusal) → r ≡ Refused f → ListRead most s (Refused f)
+  module _ (l : Section) (e : r ≡ Ok l) where
+    pub list_over : l.next < length s → ListRead most s (Err LengthWrong)
     unfolding list_in
-    list_refusal_lem f e = list_refuses f (rw (section_refusal x f e) refl)
+    list_over h =
+        gives_refusal LengthWrong (rw (given_value x l e, ne_eqb (length (drop l.next s)) 0 (λ z. omega (arith, length-drop l.next s))) refl)
 
-    module _ (n next : ℕ) (e : r ≡ Rules n next) where
-      pub list_over : next < length s → ListRead most s (Refused LengthWrong)
-      unfolding list_in
-      list_over h =
-          list_refuses LengthWrong (rw (section_rules x n next e, ne_eqb (length (drop next s)) 0 (λ z. omega (arith, length-drop next s))) refl)
-
-      pub list_read : length s ≤ next → ListRead most s (Rules n next)
-      unfolding list_in list_heard OfRules
-      list_read h =
-          let p = section_laid x n next e in
-          let i = p.inside in
-          record {
-            says = sym (rw (section_rules x n next e, eq-eqb (length (drop next s)) 0 (omega (arith, length-drop next s))) refl);
-            laid = record { section = p; whole = omega arith };
-          }
+    pub list_read : length s ≤ l.next → ListRead most s (Ok l)
+    unfolding list_in
+    list_read h =
+        let p = given_laid x l e in
+        let i = p.inside in
+        record {
+          says = sym (rw (given_value x l e, eq-eqb (length (drop l.next s)) 0 (omega (arith, length-drop l.next s))) refl);
+          laid = record { section = p; whole = omega arith };
+        }

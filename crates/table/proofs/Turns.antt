@@ -1,122 +1,73 @@
--- Laws of the lookup in a table, as its loop goes about it: the answer before any rule, one rule judged alone, and a turn.
--- Assumes nothing.
-use mathlib.Core.Path.{◌≡◌, refl, sym, ◌∙◌}
-use mathlib.Core.List.{List, [], ◌∷◌}
-use mathlib.Core.Bool.{Bool, true, false, cond, ◌&&◌, true≢false}
-use Prim.Native.Nat.{ℕ, suc, ◌+◌, ◌*◌, ◌<◌, ◌≤◌, zero-le}
-use native.Mathlib.Omega.{arith}
+-- A turn of the lookup in a table: what the rule at a place says of the lookup, and what is left behind it. Assumes nothing.
+use Rattle.std.proofs.Common.{◌≡◌, ℕ, suc, ◌+◌, ◌<◌, ◌≤◌, true, false, cond, List, length, get_or, drop, map, refl, sym, ◌∙◌, arith, leb, le-leb, leb-true}
 use native.Mathlib.Numerals.{add-one}
-use lib.Dec.{eqb, ltb, leb}
-use lib.ListN.{length, get_or, drop, drop_of_length-le}
+use lib.ListN.{length-map, get_or-map, drop_of_length-le}
 use lib.Seq.{drop-cons}
-use borrow.Author.Tests.{le-leb, lt-leb, leb-true, ltb-true, ltb-false, eq-eqb, ne_eqb, eqb-true}
-use Rattle.lists.proofs.Tests.{and_true}
+use borrow.Author.Tests.{lt-leb}
+use Rattle.policy.specs.Fields.{limits}
 use Rattle.policy.specs.Ranges.{Packet, inside}
 use Rattle.policy.specs.Rules.{Rule, sound}
-use Rattle.policy.specs.Refusals.{refusal_base, Outcome, accepted, refused, test}
-use Rattle.wire.proofs.Records.{sound_action}
-use Rattle.filter.specs.Lookup.{Hit, hit, look_from, lookup_number}
+use Rattle.policy.specs.Refusals.{accepted, refused, test}
+use Rattle.policy.specs.Values.{rule_of}
+use Rattle.policy.specs.declared.Rule.{Rule as RuleValue}
+use Rattle.policy.proofs.Answers.{test_accepted}
+use Rattle.filter.specs.Lookup.{hit, look_from, Verdict, verdict}
+use Rattle.filter.specs.Steps.{InTotal}
+use Rattle.filter.proofs.Verdicts.{look_small}
+use Rattle.std.specs.Prelude.{Ok, Err, IfOk}
 use Rattle.table.specs.Table.{lookup_table}
-use Rattle.table.specs.Steps.{none_fits, counted, going_on}
 
--- The count, before any rule is looked at.
-module _ (most n : ℕ) where
-  pub counted_none : n < 1 → refusal_base + 2 ≡ counted most n
-  unfolding counted lookup_number
-  counted_none h = rw (lt-leb 1 n h) refl
+module _ (p : Packet) (table : List RuleValue) where
+  abbrev rules : List Rule
+  rules = map rule_of table
 
-  module _ (some : 1 ≤ n) where
-    pub counted_many : most < n → refusal_base + 2 ≡ counted most n
-    unfolding counted lookup_number
-    counted_many h = rw (le-leb 1 n some, lt-leb n most h) refl
+  pub too_few : length table < 1 → refused 2 ≡ lookup_table limits.total p rules
+  unfolding lookup_table
+  too_few h = rw (length-map table rule_of, lt-leb 1 (length table) h) refl
 
-    pub counted_well : n ≤ most → refusal_base + 5 ≡ counted most n
-    unfolding counted lookup_number
-    counted_well h = rw (le-leb 1 n some, le-leb n most h) refl
+  module _ (some : 1 ≤ length table) where
+    pub too_many : limits.total < length table → refused 2 ≡ lookup_table limits.total p rules
+    unfolding lookup_table
+    too_many h = rw (length-map table rule_of, le-leb 1 (length table) some, lt-leb (length table) limits.total h) refl
 
--- One rule at place i, judged alone.
-abbrev pub judged : ℕ → Packet → Rule → ℕ
-judged i p r = lookup_number (look_from i p (r ∷ []))
+    -- The rules from a place on decide.
+    pub left_all : length table ≤ limits.total → look_from 0 p rules ≡ lookup_table limits.total p rules
+    unfolding lookup_table
+    left_all h = rw (length-map table rule_of, le-leb 1 (length table) some, le-leb (length table) limits.total h) refl
 
-module _ (i : ℕ) (p : Packet) (r : Rule) where
-  pub judged_bad : sound r ≡ false → refusal_base + 4 ≡ judged i p r
-  unfolding look_from lookup_number
-  judged_bad e = rw e refl
+  abbrev pub Left : ℕ → Type 0
+  Left i = look_from i p (drop i rules) ≡ lookup_table limits.total p rules
 
-  module _ (well : sound r ≡ true) where
-    pub judged_fits : inside p r.region ≡ true → 2 * i + r.action ≡ judged i p r
-    unfolding look_from lookup_number
-    judged_fits f = rw (well, f) refl
+  module _ (i : ℕ) (left : Left i) where
+    module _ (here : i < length table) (blank : RuleValue) where
+      abbrev rule : Rule
+      rule = rule_of (get_or table i blank)
 
-    pub judged_misses : inside p r.region ≡ false → refusal_base + 5 ≡ judged i p r
-    unfolding look_from lookup_number
-    judged_misses f = rw (well, f) refl
+      turn : look_from i p (drop i rules) ≡ test (sound rule) 4 (cond (inside p rule.region) (accepted (hit i rule.action)) (look_from (suc i) p (drop (suc i) rules)))
+      unfolding look_from
+      turn = rw (drop-cons rules i (rule_of blank) (rw length-map here), get_or-map rule_of table i blank) refl
 
--- A turn: where the rule at place i has not decided, the next ones do.
-turn : (s t : Bool) (i a : ℕ) (rest : Outcome Hit) → (s ≡ true → a ≤ 1) → 2 * suc i ≤ refusal_base
-    → lookup_number (test s 4 (cond t (accepted (hit i a)) rest))
-    ≡ cond (eqb (lookup_number (test s 4 (cond t (accepted (hit i a)) (refused 5)))) none_fits)
-    (lookup_number rest) (lookup_number (test s 4 (cond t (accepted (hit i a)) (refused 5))))
-unfolding lookup_number
-turn true true i a rest f few = let h = f refl in rw (ne_eqb (2 * i + a) (refusal_base + 5) (λ e. omega arith)) refl
-turn true false i a rest f few = refl
-turn false t i a rest f few = refl
+      pub bad_rule : sound rule ≡ false → refused 4 ≡ lookup_table limits.total p rules
+      bad_rule e = sym (turn ∙ rw e refl) ∙ left
 
--- The count's tests before the rules: where none of them refuses, the rules decide.
-opened : (s t : Bool) (rules : Outcome Hit)
-    → lookup_number (test s 2 (test t 2 rules))
-    ≡ cond (eqb (lookup_number (test s 2 (test t 2 (refused 5)))) none_fits)
-    (lookup_number rules) (lookup_number (test s 2 (test t 2 (refused 5))))
-unfolding lookup_number
-opened true true rules = refl
-opened true false rules = refl
-opened false t rules = refl
+      module _ (well : sound rule ≡ true) where
+        pub rule_fits : inside p rule.region ≡ true → accepted (hit i rule.action) ≡ lookup_table limits.total p rules
+        rule_fits e = sym (turn ∙ rw (well, e) refl) ∙ left
 
-opened_few : (s t : Bool) → lookup_number (test s 2 (test t 2 (refused 5))) ≡ none_fits → t ≡ true
-unfolding lookup_number
-opened_few true true e = refl
-opened_few true false e = absurd (omega arith)
-opened_few false t e = absurd (omega arith)
+        pub rule_misses : inside p rule.region ≡ false → Left (i + 1)
+        rule_misses e = rw (add-one i) (sym (turn ∙ rw (well, e) refl) ∙ left)
 
--- What the loop knows when it comes to place i with an answer so far.
-pub record Reached (most : ℕ) (p : Packet) (l : List Rule) (i answer : ℕ) : Type 0 where
-  pub within : i ≤ length l
-  pub few : answer ≡ none_fits → length l ≤ most
-  pub left : lookup_number (lookup_table most p l) ≡ cond (eqb answer none_fits) (lookup_number (look_from i p (drop i l))) answer
-
-pub going_within : (i n a : ℕ) → going_on i n a ≡ true → (i < n) × (a ≡ none_fits)
-unfolding going_on
-going_within i n a e = let h = and_true (ltb i n) (eqb a none_fits) e in (ltb-true i n h.0, eqb-true a none_fits h.1)
-
-module _ (most : ℕ) (p : Packet) (l : List Rule) where
-  pub reached_first : (a : ℕ) → a ≡ counted most (length l) → Reached most p l 0 a
-  unfolding counted lookup_table
-  reached_first a e = record {
-    within = zero-le;
-    few = λ h. leb-true (length l) most (opened_few (leb 1 (length l)) (leb (length l) most) (sym e ∙ h));
-    left = rw e (opened (leb 1 (length l)) (leb (length l) most) (look_from 0 p l));
-  }
-
-  module _ (i answer : ℕ) (so : Reached most p l i answer) where
-    pub reached_next : 2 * most ≤ refusal_base → going_on i (length l) answer ≡ true → (d : Rule) (a : ℕ) → a ≡ judged i p (get_or l i d) → Reached most p l (i + 1) a
+    pub none_fits : length table ≤ i → refused 5 ≡ lookup_table limits.total p rules
     unfolding look_from
-    reached_next bound going d a e =
-        let g = going_within i (length l) answer going in
-        let few = so.few g.1 in
-        let r : Rule = get_or l i d in
-        record {
-          within = omega arith;
-          few = λ h. few;
-          left = so.left ∙ rw (eq-eqb answer none_fits g.1, drop-cons l i d g.0, e, add-one i)
-              (turn (sound r) (inside p r.region) i r.action (look_from (suc i) p (drop (suc i) l)) (sound_action r) (omega arith));
-        }
+    none_fits h = sym (rw (drop_of_length-le rules {i = i} (rw length-map h)) refl) ∙ left
 
-    ended : (u t : Bool) → ltb i (length l) ≡ u → eqb answer none_fits ≡ t → (u && t) ≡ false → answer ≡ cond t (lookup_number (look_from i p (drop i l))) answer
-    unfolding look_from
-    ended true true g h e = absurd (true≢false e)
-    ended false true g h e = rw (drop_of_length-le l (ltb-false i (length l) g)) (eqb-true answer none_fits h)
-    ended u false g h e = refl
-
-    pub reached_last : going_on i (length l) answer ≡ false → answer ≡ lookup_number (lookup_table most p l)
-    unfolding going_on
-    reached_last e = ended (ltb i (length l)) (eqb answer none_fits) refl refl e ∙ sym so.left
+-- What the lookup answers is small.
+pub lookup_in_total : (p : Packet) (l : List Rule) (v : Verdict) → verdict v ≡ lookup_table limits.total p l → IfOk v InTotal
+unfolding lookup_table
+lookup_in_total p l (Ok d) e =
+    let a = test_accepted (leb 1 (length l)) 2 _ (sym e) in
+    let b = test_accepted (leb (length l) limits.total) 2 _ a.1 in
+    let h = look_small 0 p l (hit d.place d.action) b.1 in
+    let m = leb-true (length l) limits.total b.0 in
+    (omega (arith, h.0), h.1)
+lookup_in_total p l (Err f) e = tt

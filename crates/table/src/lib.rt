@@ -1,71 +1,39 @@
-// Lookup of a packet in a table of rules in memory. `judge_at` and `lookup_number` are lent the slice; they are thin, and what they
-// decide stands in the functions before them.
+// Lookup of a packet in a table of rules in memory.
 #![tactic(auto)]
 
-ghost use Rattle.std.specs.Prelude.{◌≡◌, [], ◌∷◌, map, ◌<◌, length, get_or};
+ghost use Rattle.std.specs.Prelude.{◌≡◌, map};
 ghost use Rattle.policy.specs.Fields.{limits};
 ghost use Rattle.policy.specs.Values.{rule_of, packet_of};
-ghost use Rattle.filter.specs.Lookup.{look_from, lookup_number};
+ghost use Rattle.filter.specs.Lookup.{lookup_number, verdict};
 ghost use Rattle.table.specs.Table.{lookup_table};
-ghost use Rattle.table.specs.Steps.{blank, counted, going_on};
 
-use filter::is_inside;
-use policy::{Packet, Refusal, Rule, TOTAL_MOST, refused_number};
+use filter::{Decision, Verdict, is_inside, verdict_number};
+use policy::{Packet, Refusal, Rule, TOTAL_MOST};
 
-// The answer before any rule is looked at: none fits so far, unless the count is outside its limits.
-fn opening(count: usize) -> u32
-    ensures { result ≡ counted limits.total count }
+// The first rule of a table that has the packet. A rule is tested before its box is.
+pub fn lookup(p: Packet, rules: &[Rule]) -> Verdict
+    ensures { verdict result ≡ lookup_table limits.total (packet_of p) (map rule_of rules.now) }
 {
-    if count < 1 {
-        return refused_number(Refusal::CountOutside);
+    if rules.is_empty() || TOTAL_MOST < rules.len() {
+        return Err(Refusal::CountOutside);
     }
-    if TOTAL_MOST < count {
-        return refused_number(Refusal::CountOutside);
+    for (place, rule) in rules.iter().enumerate() {
+        if !rule.is_sound() {
+            return Err(Refusal::RuleBad);
+        }
+        if is_inside(p, rule.bounds) {
+            return Ok(Decision {
+                place,
+                action: rule.action,
+            });
+        }
     }
-    refused_number(Refusal::NotComplete)
+    Err(Refusal::NotComplete)
 }
 
-// The next rule is tried while there is one and none has fitted so far.
-fn going(i: usize, count: usize, answer: u32) -> bool
-    ensures { result ≡ going_on i count answer }
-{
-    if i < count {
-        return answer == refused_number(Refusal::NotComplete);
-    }
-    false
-}
-
-// What the rule at a place says of a packet: a lookup in this rule alone.
-fn judge(r: Rule, p: Packet, i: usize) -> u32
-    requires { i < limits.total }
-    ensures { result ≡ lookup_number (look_from i (packet_of p) (rule_of r ∷ [])) }
-{
-    if !r.is_sound() {
-        return refused_number(Refusal::RuleBad);
-    }
-    let bounds = r.bounds;
-    if is_inside(p, bounds) {
-        return 2 * (i as u32) + r.action;
-    }
-    refused_number(Refusal::NotComplete)
-}
-
-fn judge_at(p: Packet, rules: &[Rule], i: usize) -> u32
-    requires { (i < length rules.now) × (i < limits.total) }
-    ensures { result ≡ lookup_number (look_from i (packet_of p) (rule_of (get_or rules.now i blank) ∷ [])) }
-{
-    judge(rules[i], p, i)
-}
-
-// The first rule of a table that has the packet, as the number for C.
+// The same as the number for C.
 pub fn lookup_number(p: Packet, rules: &[Rule]) -> u32
     ensures { result ≡ lookup_number (lookup_table limits.total (packet_of p) (map rule_of rules.now)) }
 {
-    let mut answer = opening(rules.len());
-    let mut i: usize = 0;
-    while going(i, rules.len(), answer) {
-        answer = judge_at(p, rules, i);
-        i += 1;
-    }
-    answer
+    verdict_number(lookup(p, rules))
 }

@@ -1,31 +1,12 @@
 -- Laws on zeroing, filling and what a refusal leaves. Assumes nothing.
 use mathlib.Core.Path.{◌≡◌, refl, ap, sym, ◌∙◌}
-use mathlib.Core.List.{List, [], ◌∷◌, ◌++◌, append_assoc}
-use Prim.Native.Nat.{ℕ, suc, ◌+◌, ◌-◌, ◌<◌, ◌≤◌}
+use mathlib.Core.List.{List, ◌++◌, append_assoc}
+use Prim.Native.Nat.{ℕ, ◌+◌, ◌-◌, ◌≤◌}
 use native.Mathlib.Omega.{arith}
-use native.Mathlib.Numerals.{add-one}
-use lib.ListN.{length, take, drop, get_or, set, replicate, length-append, length-replicate, replicate-append-replicate, take-append-drop}
-use lib.Seq.{sets, sets-eq, take_all, take_at, drop_at, drop-append-add, drop-cons, drop-drop, set_at, length-take-le, append_snoc}
+use lib.ListN.{length, take, drop, replicate, length-append, length-replicate}
+use lib.Seq.{sets, sets-eq, take_all, take_at, drop_at, drop-append-add, drop-drop}
 use Rattle.policy.specs.Refusals.{Outcome, refused}
 use Rattle.wire.specs.Buffers.{zeroed, filled, written}
-
-pub zeroed_none : (from : ℕ) (s : List ℕ) → s ≡ zeroed from from s
-unfolding zeroed
-zeroed_none from s = let e : from - from ≡ 0 = omega arith in rw e (sym (take-append-drop from s))
-
-pub zeroed_next : (from : ℕ) (s : List ℕ) (i : ℕ) → from ≤ i → i < length s → set (zeroed from i s) i 0 ≡ zeroed from (i + 1) s
-unfolding zeroed
-zeroed_next from s i h g =
-    let z : List ℕ = replicate (i - from) 0 in
-    let p : List ℕ = take from s ++ z in
-    let e : length p ≡ i = rw (length-append, length-take-le from s (omega arith), length-replicate) (omega arith) in
-    let n : i - from + 1 ≡ i + 1 - from = omega arith in
-    let q : z ++ (0 ∷ []) ≡ replicate (i + 1 - from) 0 = replicate-append-replicate (i - from) 1 0 ∙ ap (λ (k : ℕ). replicate k 0) n in
-    ap (λ (l : List ℕ). set (take from s ++ (z ++ l)) i 0) (drop-cons s i 0 g)
-    ∙ (ap (λ (l : List ℕ). set l i 0) (sym (append_assoc (take from s) z (get_or s i 0 ∷ drop (suc i) s)))
-    ∙ (set_at p (get_or s i 0) (drop (suc i) s) 0 i e
-    ∙ (append_assoc (take from s) z (0 ∷ drop (suc i) s)
-    ∙ ap (λ (l : List ℕ). take from s ++ l) (sym (append_snoc z 0 (drop (suc i) s)) ∙ rw (q, add-one) refl))))
 
 -- Content copied to the front, and then zero behind it.
 pub filled_is : (content out copied last : List ℕ) (m n : ℕ) → m ≡ length content → m ≤ n → n ≤ length out

@@ -5,4 +5,3 @@ pub mod Counts
 pub mod Lists
 pub mod Buffers
 pub mod Steps
-pub mod Copies

@@ -1,18 +1,20 @@
 -- Laws on numbers in bytes: what is written is read back, and what is read is written back. Assumes nothing.
 use mathlib.Core.Path.{◌≡◌, refl, ap, sym, ◌∙◌}
-use mathlib.Core.List.{List, [], ◌∷◌, ◌++◌}
-use mathlib.Core.Bool.{true}
-use Prim.Native.Nat.{ℕ, zero, suc, ◌+◌, ◌*◌, ◌/◌, ◌%◌, ◌^◌, ◌<◌, ◌≤◌}
+use mathlib.Core.List.{List, [], ◌∷◌, ◌++◌, append-nil}
+use mathlib.Core.Bool.{Bool, true, false, false≢true}
+use Prim.Native.Nat.{ℕ, zero, suc, ◌+◌, ◌-◌, ◌*◌, ◌/◌, ◌%◌, ◌^◌, ◌<◌, ◌≤◌}
 use native.Mathlib.Omega.{arith}
-use native.Mathlib.Numerals.{add-one}
 use native.Mathlib.Nat.{pow-suc, div-lt_iff_lt-mul}
-use lib.ListN.{length, get_or, drop, take, length-append}
-use lib.Seq.{drop-cons, take-suc, take_all, length-take-le}
-use borrow.Author.Tests.{eqb-true, ne_eqb}
+use lib.Dec.{leb}
+use lib.ListN.{length, get_or, drop, take, length-append, length-take, length-drop}
+use lib.Seq.{take-suc, take_all, length-take-le}
+use borrow.Author.Tests.{leb-true, leb-false, ne_eqb}
+use borrow.Rule.Slice.PartMut.{mid_of, put_mid, same_len_mid}
+use Rattle.std.specs.Int.{w32, to_be_bytes, from_be_bytes}
 use Rattle.lists.specs.Lists.{Each}
 use Rattle.lists.proofs.Lists.{each_take, each-drop}
 use Rattle.wire.specs.Numbers.{number_bytes, number_from, number_in, Byte}
-use Rattle.wire.specs.Steps.{low_first, is_width}
+use Rattle.wire.specs.Steps.{is_width}
 
 -- Parts of bytes are bytes.
 pub bytes_take : (n : ℕ) (s : List ℕ) → Each Byte s → Each Byte (take n s)
@@ -83,72 +85,69 @@ bytes_back (suc w) s e h =
     let r : number_bytes w (number_in t) ≡ t = bytes_back w t (length-take-le w s (omega arith)) (bytes_take w s h) in
     rw (d, m, r) (sym (take-suc s w 0 (omega arith)) ∙ take_all (suc w) s (omega arith))
 
--- The number that begins at a byte, byte by byte.
-step : (x : ℕ) (s : List ℕ) (at next w : ℕ) → at < length s → next ≡ at + 1
-    → number_from x (take (suc w) (drop at s)) ≡ number_from (x * 256 + get_or s at 0) (take w (drop next s))
-unfolding number_from
-step x s at next w h e = rw (drop-cons s at 0 h, e, add-one)
-
-pub one_byte : (s : List ℕ) (at : ℕ) → at + 1 ≤ length s → number_in (take 1 (drop at s)) ≡ get_or s at 0
-unfolding number_from
-one_byte s at h = step 0 s at (at + 1) 0 (omega arith) refl ∙ omega arith
-
-pub two_bytes : (s : List ℕ) (at : ℕ) → at + 2 ≤ length s → number_in (take 2 (drop at s)) ≡ get_or s at 0 * 256 + get_or s (at + 1) 0
-unfolding number_from
-two_bytes s at h =
-    step 0 s at (at + 1) 1 (omega arith) refl ∙ step (0 * 256 + get_or s at 0) s (at + 1) (at + 2) 0 (omega arith) (omega arith) ∙ omega arith
-
-pub four_bytes : (s : List ℕ) (at : ℕ) → at + 4 ≤ length s
-    → number_in (take 4 (drop at s)) ≡ get_or s at 0 * 16777216 + get_or s (at + 1) 0 * 65536 + get_or s (at + 2) 0 * 256 + get_or s (at + 3) 0
-unfolding number_from
-four_bytes s at h =
-    step 0 s at (at + 1) 3 (omega arith) refl ∙ step (0 * 256 + get_or s at 0) s (at + 1) (at + 2) 2 (omega arith) (omega arith)
-    ∙ step ((0 * 256 + get_or s at 0) * 256 + get_or s (at + 1) 0) s (at + 2) (at + 3) 1 (omega arith) (omega arith)
-    ∙ step (((0 * 256 + get_or s at 0) * 256 + get_or s (at + 1) 0) * 256 + get_or s (at + 2) 0) s (at + 3) (at + 4) 0 (omega arith) (omega arith)
-    ∙ omega arith
-
--- A width that is neither 4 nor 2 is 1.
-pub last_width : (w : ℕ) → is_width w ≡ true → (w ≡ 4 → ⊥) → (w ≡ 2 → ⊥) → w ≡ 1
+-- A width is at most 4.
+pub width_most : (w : ℕ) → is_width w ≡ true → w ≤ 4
 unfolding is_width
-last_width w h n m = eqb-true w 1 (rw (ne_eqb w 4 n, ne_eqb w 2 m) at h)
+width_most w h = go (leb w 4) refl
+  where
+    go : (t : Bool) → leb w 4 ≡ t → w ≤ 4
+    go true e = leb-true w 4 e
+    go false e =
+        let g = leb-false w 4 e in
+        let n4 : w ≡ 4 → ⊥ = λ k. omega arith in
+        let n2 : w ≡ 2 → ⊥ = λ k. omega arith in
+        let n1 : w ≡ 1 → ⊥ = λ k. omega arith in
+        absurd (false≢true (rw (ne_eqb w 4 n4, ne_eqb w 2 n2, ne_eqb w 1 n1) at h))
 
--- A number built from its bytes has them, the lowest first.
-module _ (w q b : ℕ) (h : b < 256) where
-  low_first_lem : low_first (suc w) (q * 256 + b) ≡ b ∷ low_first w q
-  unfolding low_first
-  low_first_lem =
-      let e : (q * 256 + b) % 256 ≡ b = omega arith in
-      let f : (q * 256 + b) / 256 ≡ q = omega arith in
-      rw (e, f)
+-- Four bytes, the last w of them read and zero before them, say what the w say.
+zeros_before : (w : ℕ) (s : List ℕ) → w ≤ 4 → number_in (put_mid (4 - w) (4 - (4 - w)) (0 ∷ 0 ∷ 0 ∷ 0 ∷ []) s) ≡ number_in s
+unfolding number_from
+zeros_before zero s h = ap number_in (append-nil s)
+zeros_before (suc zero) s h = ap number_in (append-nil s)
+zeros_before (suc (suc zero)) s h = ap number_in (append-nil s)
+zeros_before (suc (suc (suc zero))) s h = ap number_in (append-nil s)
+zeros_before (suc (suc (suc (suc zero)))) s h = ap number_in (append-nil s)
+zeros_before (suc (suc (suc (suc (suc w))))) s h = absurd (omega arith)
 
-pub turned_two : (x : ℕ) → low_first 2 (x % 256 * 256 + x / 256 % 256) ≡ number_bytes 2 x
-unfolding low_first number_bytes
-turned_two x =
-    let e : x % 256 % 256 ≡ x % 256 = omega arith in
-    low_first_lem 1 (x % 256) (x / 256 % 256) (omega arith) ∙ rw e
+four_number : (s : List ℕ) → length s ≡ 4 → from_be_bytes w32 s ≡ number_in s
+unfolding number_from
+four_number [] h = absurd (omega arith)
+four_number (a ∷ []) h = absurd (omega arith)
+four_number (a ∷ b ∷ []) h = absurd (omega arith)
+four_number (a ∷ b ∷ c ∷ []) h = absurd (omega arith)
+four_number (a ∷ b ∷ c ∷ d ∷ []) h = omega arith
+four_number (a ∷ b ∷ c ∷ d ∷ (e ∷ s)) h = absurd (omega arith)
 
-pub turned_four : (x : ℕ) → low_first 4 (((x % 256 * 256 + x / 256 % 256) * 256 + x / 256 / 256 % 256) * 256 + x / 256 / 256 / 256 % 256) ≡ number_bytes 4 x
-unfolding low_first number_bytes
-turned_four x =
-    let a : ℕ = x % 256 in
-    let b : ℕ = x / 256 % 256 in
-    let c : ℕ = x / 256 / 256 % 256 in
-    let d : ℕ = x / 256 / 256 / 256 % 256 in
-    let e : a % 256 ≡ a = omega arith in
-    low_first_lem 3 ((a * 256 + b) * 256 + c) d (omega arith)
-    ∙ ap (◌∷◌ d) (low_first_lem 2 (a * 256 + b) c (omega arith) ∙ ap (◌∷◌ c) (low_first_lem 1 a b (omega arith) ∙ rw e))
+pub number_read : (w : ℕ) (s bytes : List ℕ) → w ≤ 4 → length s ≡ w → bytes ≡ s
+    → from_be_bytes w32 (put_mid (4 - w) (4 - (4 - w)) (0 ∷ 0 ∷ 0 ∷ 0 ∷ []) bytes) ≡ number_in s
+number_read w s bytes h l e =
+    let zeros : List ℕ = 0 ∷ 0 ∷ 0 ∷ 0 ∷ [] in
+    let k : length bytes ≡ length (mid_of (4 - w) (4 - (4 - w)) zeros) = rw (e, length-take, length-drop) (omega arith) in
+    four_number (put_mid (4 - w) (4 - (4 - w)) zeros bytes) (same_len_mid (4 - w) (4 - (4 - w)) zeros bytes k) ∙ (ap (λ (t : List ℕ). number_in (put_mid (4 - w) (4 - (4 - w)) zeros t)) e ∙ zeros_before w s h)
 
--- A number turned from the one whose bytes are d, c, b, a: a and b make its upper half, c and d its lower one.
-pub turned_halves : (r a b c d : ℕ) → r < 2 ^ 32 → a < 256 → b < 256 → c < 256 → d < 256
-    → low_first 4 r ≡ number_bytes 4 (d * 16777216 + c * 65536 + b * 256 + a) → (r / 65536 ≡ a * 256 + b) × (r % 65536 ≡ c * 256 + d)
-unfolding low_first number_from Each
-turned_halves r a b c d small ha hb hc hd turned =
-    let s : List ℕ = d ∷ c ∷ b ∷ a ∷ [] in
-    let e : d * 16777216 + c * 65536 + b * 256 + a ≡ number_in s = omega arith in
-    let f : low_first 4 r ≡ s = turned ∙ ap (number_bytes 4) e ∙ bytes_back 4 s refl (hd, (hc, (hb, (ha, tt)))) in
-    let byte : (i : ℕ) → get_or (low_first 4 r) i 0 ≡ get_or s i 0 = λ i. ap (λ (l : List ℕ). get_or l i 0) f in
-    let e0 : r % 256 ≡ d = byte 0 in
-    let e1 : r / 256 % 256 ≡ c = byte 1 in
-    let e2 : r / 256 / 256 % 256 ≡ b = byte 2 in
-    let e3 : r / 256 / 256 / 256 % 256 ≡ a = byte 3 in
+-- The last w of a number's four bytes.
+pub last_bytes : (w x : ℕ) (bytes : List ℕ) → w ≤ 4 → bytes ≡ to_be_bytes w32 x → take (4 - (4 - w)) (drop (4 - w) bytes) ≡ number_bytes w x
+unfolding number_bytes
+last_bytes zero x bytes h e = refl
+last_bytes (suc zero) x bytes h e = rw e refl
+last_bytes (suc (suc zero)) x bytes h e = rw e refl
+last_bytes (suc (suc (suc zero))) x bytes h e = let f : x / 65536 ≡ x / 256 / 256 = omega arith in rw (e, f) refl
+last_bytes (suc (suc (suc (suc zero)))) x bytes h e =
+    let f : x / 65536 ≡ x / 256 / 256 = omega arith in
+    let g : x / 16777216 ≡ x / 256 / 256 / 256 = omega arith in
+    rw (e, f, g) refl
+last_bytes (suc (suc (suc (suc (suc w))))) x bytes h e = absurd (omega arith)
+
+-- Two numbers of two bytes each, in one number of four.
+pub halves : (s : List ℕ) → 4 ≤ length s → Each Byte s → (number_in (take 4 s) / 65536 ≡ number_in (take 2 s)) × (number_in (take 4 s) % 65536 ≡ number_in (take 2 (drop 2 s)))
+unfolding number_from Each
+halves [] h b = absurd (omega arith)
+halves (x ∷ []) h b = absurd (omega arith)
+halves (x ∷ y ∷ []) h b = absurd (omega arith)
+halves (x ∷ y ∷ z ∷ []) h b = absurd (omega arith)
+halves (x ∷ y ∷ z ∷ v ∷ s) h b =
+    let bx = b.0 in
+    let by = b.1.0 in
+    let bz = b.1.1.0 in
+    let bv = b.1.1.1.0 in
     (omega arith, omega arith)

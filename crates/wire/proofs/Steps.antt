@@ -50,17 +50,16 @@ module _ (ws : List ℕ) (k : ℕ) (fits : k < length ws) where
   write_step b g = rw (add-one, drop-cons ws k 0 fits, drop-cons b k (range 0 0) g)
 
   read_step : (s : List ℕ) (p : ℕ)
-      → ranges_in (drop k ws) (drop p s) ≡ range (number_in (take (get_or ws k 0) (drop p s))) (number_in (take (get_or ws k 0) (drop (p + get_or ws k 0) s))) ∷ ranges_in (drop (k + 1) ws) (drop (p + get_or ws k 0 + get_or ws k 0) s)
+      → ranges_in (drop k ws) (drop p s) ≡ range (number_in (take (get_or ws k 0) (drop p s))) (number_in (take (get_or ws k 0) (drop (p + get_or ws k 0) s))) ∷ ranges_in (drop (k + 1) ws) (drop (p + (get_or ws k 0 + get_or ws k 0)) s)
   unfolding ranges_in
   read_step s p =
       let w : ℕ = get_or ws k 0 in
-      let e : p + (w + w) ≡ p + w + w = omega arith in
-      rw (add-one, drop-cons ws k 0 fits, drop-drop w p s, drop-drop (w + w) p s, e)
+      rw (add-one, drop-cons ws k 0 fits, drop-drop w p s, drop-drop (w + w) p s)
 
   pub read_next : (s low high : List ℕ) (p l h : ℕ) (whole : Region) → length low ≡ length high → k < length low
       → l ≡ number_in (take (get_or ws k 0) (drop p s)) → h ≡ number_in (take (get_or ws k 0) (drop (p + get_or ws k 0) s))
       → ranges (take k low) (take k high) ++ ranges_in (drop k ws) (drop p s) ≡ whole
-      → ranges (take (k + 1) (set low k l)) (take (k + 1) (set high k h)) ++ ranges_in (drop (k + 1) ws) (drop (p + get_or ws k 0 + get_or ws k 0) s) ≡ whole
+      → ranges (take (k + 1) (set low k l)) (take (k + 1) (set high k h)) ++ ranges_in (drop (k + 1) ws) (drop (p + (get_or ws k 0 + get_or ws k 0)) s) ≡ whole
   read_next s low high p l h whole e g el eh inv =
       rw (ranges_next low high k l h e g, append_assoc, el, eh) (rw (read_step s p) at inv)
 
@@ -72,7 +71,7 @@ read_last ws s low high p k whole e l h inv = rw (take_all k low l, take_all k h
 -- Writing, where only the first n fields are written.
 module _ (n k : ℕ) (out low high : List ℕ) (p : ℕ) (whole : List ℕ) (inv : sets out p (ranges_bytes (drop k (take n widths)) (drop k (ranges low high))) ≡ whole) where
   pub fields_next : k < n → k < fields → length low ≡ length high → k < length low
-      → sets (sets (sets out p (number_bytes (get_or widths k 0) (get_or low k 0))) (p + get_or widths k 0) (number_bytes (get_or widths k 0) (get_or high k 0))) (p + get_or widths k 0 + get_or widths k 0)
+      → sets (sets (sets out p (number_bytes (get_or widths k 0) (get_or low k 0))) (p + get_or widths k 0) (number_bytes (get_or widths k 0) (get_or high k 0))) (p + (get_or widths k 0 + get_or widths k 0))
       (ranges_bytes (drop (k + 1) (take n widths)) (drop (k + 1) (ranges low high))) ≡ whole
   fields_next h t e g =
       let w : ℕ = get_or widths k 0 in
@@ -81,7 +80,8 @@ module _ (n k : ℕ) (out low high : List ℕ) (p : ℕ) (whole : List ℕ) (inv
       let g' : k < length b = omega (arith, ranges-length low high e) in
       let v : sets out p (number_bytes w (get_or low k 0) ++ (number_bytes w (get_or high k 0) ++ ranges_bytes (drop (k + 1) (take n widths)) (drop (k + 1) b))) ≡ whole =
       rw (write_step (take n widths) k f b g', get_or-take n widths k 0 h, ranges_at low high k e) at inv in
-      rw (sets-append, number_bytes-length, sets-append, number_bytes-length) at v
+      let q : p + w + w ≡ p + (w + w) = omega arith in
+      rw (sets-append, number_bytes-length, sets-append, number_bytes-length, q) at v
 
   pub fields_past : n ≤ k → (q : ℕ) → sets out q (ranges_bytes (drop (k + 1) (take n widths)) (drop (k + 1) (ranges low high))) ≡ whole
   unfolding ranges_bytes

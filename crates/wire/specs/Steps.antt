@@ -1,10 +1,5 @@
 -- The words in which the inner functions that write bytes say what they leave. Assumes nothing.
-use Rattle.std.specs.Prelude.{List, [], ◌∷◌, ◌++◌, Bool, ◌||◌, ℕ, zero, suc, ◌+◌, ◌-◌, ◌/◌, ◌%◌, eqb, take, drop}
-
--- The w bytes of x, the lowest first.
-unfoldable pub low_first : ℕ → ℕ → List ℕ
-low_first zero x = []
-low_first (suc w) x = x % 256 ∷ low_first w (x / 256)
+use Rattle.std.specs.Prelude.{List, ◌++◌, Bool, ◌||◌, ℕ, ◌+◌, ◌-◌, eqb, take, drop}
 
 -- The widths that a field can have.
 unfoldable pub is_width : ℕ → Bool

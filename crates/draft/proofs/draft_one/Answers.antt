@@ -1,9 +1,9 @@
 -- `draft_one` meets its contract, arm by arm. Assumes nothing.
-use borrow.Author.Rules.{rules}
 use native.Mathlib.Omega.{arith}
 use mathlib.Core.Path.{◌≡◌, ap, sym, ◌∙◌}
 use Prim.Native.Nat.{◌*◌}
 use lib.ListN.{drop, length-take}
+use Rattle.std.proofs.lemmas.Result.{err_from_is_err_and}
 use Rattle.policy.specs.Fields.{record_size}
 use Rattle.policy.specs.Rules.{Rule, is_allow}
 use Rattle.policy.specs.Move.{alone}
@@ -17,53 +17,43 @@ returns-then-is_allow c =
     c.is_allow.ensures ∙ ap (λ (r : Rule). is_allow r) c.rule_at-rule.ensures in
     drafted_allow alone c.requires (sym allows ∙ c.if-is_allow.true)
 
-pub work_out-requires : goal.work_out-requires
-work_out-requires c =
-    (search rules, search rules, c.requires.rules_sound)
+pub returns-in_err-n : goal.returns-in_err-n
+returns-in_err-n c =
+    let allows : c.is_allow.result ≡ is_allow (rule_in (drop (record_size * c.args.i) c.args.rules.now)) =
+    c.is_allow.ensures ∙ ap (λ (r : Rule). is_allow r) c.rule_at-rule.ensures in
+    let refused = err_from_is_err_and c.from_residual.result c.from_residual.ensures.1 in
+    rw (refused.1, refused.2) (drafted_over alone c.requires (sym allows ∙ c.if-is_allow.false) c.in_err-n.ensures)
 
 pub overflow_mul-size : goal.overflow_mul-size
 overflow_mul-size c =
-    let x = rw c.in-Boxes.is at c.work_out.ensures in
-    let few = worked_few (omega arith) x in
+    let few = worked_few (omega arith) c.in_ok-n.ensures in
     omega arith
 
 pub overflow_add-boxes : goal.overflow_add-boxes
 overflow_add-boxes c =
-    let x = rw c.in-Boxes.is at c.work_out.ensures in
-    omega (arith, worked_few (omega arith) x, c.requires.start.few, c.requires.gate)
+    omega (arith, worked_few (omega arith) c.in_ok-n.ensures, c.requires.start.few, c.requires.gate)
 
 pub slice_bounds-append-end : goal.slice_bounds-append-end
 slice_bounds-append-end c =
-    let x = rw c.in-Boxes.is at c.work_out.ensures in
-    omega (arith, worked_few (omega arith) x, c.requires.work_room)
+    omega (arith, worked_few (omega arith) c.in_ok-n.ensures, c.requires.work_room)
 
-pub slice_bounds-append-end-in-Boxes : goal.slice_bounds-append-end-in-Boxes
-slice_bounds-append-end-in-Boxes c =
-    let x = rw c.in-Boxes.is at c.work_out.ensures in
-    let few = worked_few (omega arith) x in
+pub slice_bounds-append-end-2 : goal.slice_bounds-append-end-2
+slice_bounds-append-end-2 c =
+    let few = worked_few (omega arith) c.in_ok-n.ensures in
     simp length-take (omega (arith, few, c.requires.work_room))
 
 pub append-end-requires : goal.append-end-requires
 append-end-requires c =
-    let x = rw c.in-Boxes.is at c.work_out.ensures in
-    let few = worked_few (omega arith) x in
+    let few = worked_few (omega arith) c.in_ok-n.ensures in
     (omega arith, simp length-take (omega (arith, few, c.requires.work_room)), λ t. omega (arith, c.requires.start.short, c.requires.room, c.requires.gate))
 
 pub overflow_add-result : goal.overflow_add-result
 overflow_add-result c =
-    let x = rw c.in-Boxes.is at c.work_out.ensures in
-    omega (arith, worked_few (omega arith) x, c.requires.start.few, c.requires.gate)
+    omega (arith, worked_few (omega arith) c.in_ok-n.ensures, c.requires.start.few, c.requires.gate)
 
-pub returns-in-TooMany : goal.returns-in-TooMany
-returns-in-TooMany c =
+pub returns : goal.returns
+returns c =
     let allows : c.is_allow.result ≡ is_allow (rule_in (drop (record_size * c.args.i) c.args.rules.now)) =
     c.is_allow.ensures ∙ ap (λ (r : Rule). is_allow r) c.rule_at-rule.ensures in
-    drafted_over alone c.requires (sym allows ∙ c.if-is_allow.false) (rw c.in-TooMany.is at c.work_out.ensures)
-
-pub returns-in-Boxes : goal.returns-in-Boxes
-returns-in-Boxes c =
-    let allows : c.is_allow.result ≡ is_allow (rule_in (drop (record_size * c.args.i) c.args.rules.now)) =
-    c.is_allow.ensures ∙ ap (λ (r : Rule). is_allow r) c.rule_at-rule.ensures in
-    let x = rw c.in-Boxes.is at c.work_out.ensures in
-    let few = worked_few (omega arith) x in
-    drafted_boxes alone c.requires (sym allows ∙ c.if-is_allow.false) (omega arith) x (omega (arith, few, c.requires.work_room)) c.append-end.ensures
+    let few = worked_few (omega arith) c.in_ok-n.ensures in
+    drafted_boxes alone c.requires (sym allows ∙ c.if-is_allow.false) (omega arith) c.in_ok-n.ensures (omega (arith, few, c.requires.work_room)) c.append-end.ensures

@@ -1,11 +1,11 @@
 -- `settle` meets its contract. Assumes nothing.
+use Rattle.std.specs.Prelude.{Ok}
 use native.Mathlib.Omega.{arith}
 use mathlib.Core.Path.{refl, ap}
 use Prim.Native.Nat.{ℕ, ◌+◌, ◌≤◌}
 use lib.ListN.{length, take, length-take}
 use borrow.Author.Tests.{not-true, not-false}
 use Rattle.policy.specs.Fields.{limits}
-use Rattle.policy.specs.declared.Answer.TheVariants.{Length}
 use Rattle.edit_sheet.specs.Steps.{GatePut}
 use Rattle.edit_groups.specs.Steps.{Settling, Settled}
 use Rattle.edit_groups.proofs.settle.Goals as goal
@@ -45,4 +45,4 @@ returns-else-not-has_room c =
     let fits : c.in-Groups.boxes + c.args.old.order.own ≤ limits.total = c.has_room.ensures.0 (not-false c.has_room.result yes) in
     let room = fits in
     let e = c.put_gate.ensures in
-    rw c.in-Groups.is (λ i. absurd (omega (arith, room, i)), λ i. (ap (λ (n : ℕ). Length n) e.0, e.1))
+    rw c.in-Groups.is (λ i. absurd (omega (arith, room, i)), λ i. (ap (λ (n : ℕ). Ok n) e.0, e.1))

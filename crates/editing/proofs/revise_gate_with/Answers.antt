@@ -1,11 +1,11 @@
 -- `revise_gate_with` meets its contract. Assumes nothing.
+use Rattle.std.specs.Prelude.{Ok}
 use native.Mathlib.Omega.{arith}
 use mathlib.Core.Path.{refl, sym, subst}
 use mathlib.Core.List.{List}
 use Prim.Native.Nat.{ℕ, ◌+◌, ◌≤◌}
 use lib.ListN.{length, take, length-take}
 use Rattle.policy.specs.Fields.{record_size}
-use Rattle.policy.specs.declared.Answer.TheVariants.{Length}
 use Rattle.sheet.specs.Orders.{gate_size}
 use Rattle.sheet.specs.Pairs.{pair_bytes, pair_size}
 use Rattle.sheet.specs.Steps.{rules_of}
@@ -21,7 +21,7 @@ use Rattle.editing.proofs.revise_gate_with.Goals as goal
 
 -- the new A is within its buffer
 ends : {sheet new out made : List ℕ} {l : PairLayout} {place end : ℕ} {change : Change}
-    → Made sheet l (rules_of l.order.gate (take l.end sheet)) l.order.gate place change new out (Length end) made → gate_size + record_size ≤ length out → end ≤ length out
+    → Made sheet l (rules_of l.order.gate (take l.end sheet)) l.order.gate place change new out (Ok end) made → gate_size + record_size ≤ length out → end ≤ length out
 ends m roomy = gate_end_lem _ m.read m.inside _ _ _ m.whole m.changed roomy
 
 pub slice_bounds-change_list-end : goal.slice_bounds-change_list-end
@@ -39,12 +39,12 @@ change_list-requires c =
 
 pub slice_bounds-read_list-end : goal.slice_bounds-read_list-end
 slice_bounds-read_list-end c =
-    let m = gate_made c.requires.0 c.slice_known-1.given c.type_inv.new c.change_list.ensures c.in-Length.is in
+    let m = gate_made c.requires.0 c.slice_known-1.given c.type_inv.new c.change_list.ensures c.in-Ok.is in
     omega (arith, ends m c.requires.2)
 
-pub slice_bounds-read_list-end-in-Length : goal.slice_bounds-read_list-end-in-Length
-slice_bounds-read_list-end-in-Length c =
-    let m = gate_made c.requires.0 c.slice_known-1.given c.type_inv.new c.change_list.ensures c.in-Length.is in
+pub slice_bounds-read_list-end-in-Ok : goal.slice_bounds-read_list-end-in-Ok
+slice_bounds-read_list-end-in-Ok c =
+    let m = gate_made c.requires.0 c.slice_known-1.given c.type_inv.new c.change_list.ensures c.in-Ok.is in
     simp length-take (omega (arith, ends m c.requires.2))
 
 pub slice_bounds-find_around-end-in-Rules : goal.slice_bounds-find_around-end-in-Rules
@@ -52,32 +52,32 @@ slice_bounds-find_around-end-in-Rules c = simp length-take (omega (arith, c.requ
 
 pub slice_bounds-find_around-end-in-Rules-2 : goal.slice_bounds-find_around-end-in-Rules-2
 slice_bounds-find_around-end-in-Rules-2 c =
-    let m = gate_made c.requires.0 c.slice_known-1.given c.type_inv.new c.change_list.ensures c.in-Length.is in
+    let m = gate_made c.requires.0 c.slice_known-1.given c.type_inv.new c.change_list.ensures c.in-Ok.is in
     omega (arith, ends m c.requires.2)
 
 pub slice_bounds-find_around-end-in-Rules-3 : goal.slice_bounds-find_around-end-in-Rules-3
 slice_bounds-find_around-end-in-Rules-3 c =
-    let m = gate_made c.requires.0 c.slice_known-1.given c.type_inv.new c.change_list.ensures c.in-Length.is in
+    let m = gate_made c.requires.0 c.slice_known-1.given c.type_inv.new c.change_list.ensures c.in-Ok.is in
     simp length-take (omega (arith, ends m c.requires.2))
 
 pub find_around-around-requires : goal.find_around-around-requires
 find_around-around-requires c =
-    let m = gate_made c.requires.0 c.slice_known-1.given c.type_inv.new c.change_list.ensures c.in-Length.is in
+    let m = gate_made c.requires.0 c.slice_known-1.given c.type_inv.new c.change_list.ensures c.in-Ok.is in
     gate_around _ m.read m.inside _ _ _ m.whole m.changed c.requires.2 (made_accepted m c.slice_known-4-1.given c.read_list.ensures c.in-Rules.is)
 
 pub slice_bounds-regroup-end : goal.slice_bounds-regroup-end
 slice_bounds-regroup-end c =
-    let m = gate_made c.requires.0 c.slice_known-1.given c.type_inv.new c.change_list.ensures c.in-Length.is in
+    let m = gate_made c.requires.0 c.slice_known-1.given c.type_inv.new c.change_list.ensures c.in-Ok.is in
     omega (arith, ends m c.requires.2)
 
 pub slice_bounds-regroup-end-in-Rules : goal.slice_bounds-regroup-end-in-Rules
 slice_bounds-regroup-end-in-Rules c =
-    let m = gate_made c.requires.0 c.slice_known-1.given c.type_inv.new c.change_list.ensures c.in-Length.is in
+    let m = gate_made c.requires.0 c.slice_known-1.given c.type_inv.new c.change_list.ensures c.in-Ok.is in
     simp length-take (omega (arith, ends m c.requires.2))
 
 pub regroup-requires : goal.regroup-requires
 regroup-requires c =
-    let m = gate_made c.requires.0 c.slice_known-1.given c.type_inv.new c.change_list.ensures c.in-Length.is in
+    let m = gate_made c.requires.0 c.slice_known-1.given c.type_inv.new c.change_list.ensures c.in-Ok.is in
     gate_regrouping _ m.read m.inside _ _ _ m.whole m.changed c.requires.2 (made_accepted m c.slice_known-4-1.given c.read_list.ensures c.in-Rules.is) _ c.find_around-around.ensures c.requires.0.sheet_room c.requires.0.work_room
 
 pub returns-in-Refused : goal.returns-in-Refused
@@ -88,13 +88,13 @@ returns-in-Refused c =
 
 pub returns-in-Refused-read_list : goal.returns-in-Refused-read_list
 returns-in-Refused-read_list c =
-    let m = gate_made c.requires.0 c.slice_known-1.given c.type_inv.new c.change_list.ensures c.in-Length.is in
+    let m = gate_made c.requires.0 c.slice_known-1.given c.type_inv.new c.change_list.ensures c.in-Ok.is in
     at_which _ _ c.args.request _ 0 c.requires.1
     (refuses pair_bytes pair_size _ _ _ _ _
     (gate_refuses _ m.read m.inside _ _ _ m.whole m.changed c.requires.2 c.in-Refused-read_list.f (list_refused c.read_list.ensures _ c.in-Refused-read_list.is)) refl)
 
 pub returns-in-Rules : goal.returns-in-Rules
 returns-in-Rules c =
-    let m = gate_made c.requires.0 c.slice_known-1.given c.type_inv.new c.change_list.ensures c.in-Length.is in
+    let m = gate_made c.requires.0 c.slice_known-1.given c.type_inv.new c.change_list.ensures c.in-Ok.is in
     at_which _ _ c.args.request _ 0 c.requires.1
     (gate_done _ m.read m.inside _ _ _ m.whole m.changed c.requires.2 (made_accepted m c.slice_known-4-1.given c.read_list.ensures c.in-Rules.is) _ c.find_around-around.ensures c.regroup.ensures)

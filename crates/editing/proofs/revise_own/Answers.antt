@@ -1,4 +1,5 @@
 -- `revise_own` meets its contract. Assumes nothing.
+use Rattle.std.specs.Prelude.{Ok}
 use native.Mathlib.Omega.{arith}
 use mathlib.Core.Path.{sym, subst}
 use mathlib.Core.List.{List}
@@ -6,7 +7,6 @@ use Prim.Native.Nat.{ℕ, ◌≤◌}
 use lib.ListN.{length, take, drop, length-take}
 use borrow.Author.Tests.{not-true, not-false}
 use Rattle.policy.specs.Fields.{work_size}
-use Rattle.policy.specs.declared.Answer.TheVariants.{Length}
 use Rattle.policy.specs.declared.Refusal.TheVariants.{TooManyBoxes}
 use Rattle.sheet.specs.Pairs.{pair_bytes, pair_size}
 use Rattle.sheet.specs.Steps.{rules_of}
@@ -22,7 +22,7 @@ use Rattle.editing.proofs.revise_own.Goals as goal
 
 -- the new B is within the work buffer
 ends : {sheet new work made : List ℕ} {l : PairLayout} {place end : ℕ} {change : Change}
-    → Made sheet l (rules_of l.order.own (drop l.order.middle (take l.end sheet))) l.order.own place change new work (Length end) made → work_size ≤ length work → end ≤ length work
+    → Made sheet l (rules_of l.order.own (drop l.order.middle (take l.end sheet))) l.order.own place change new work (Ok end) made → work_size ≤ length work → end ≤ length work
 ends m roomy = own_end_lem _ m.read m.inside _ _ _ m.whole m.changed roomy
 
 pub slice_bounds-change_list-count : goal.slice_bounds-change_list-count
@@ -43,17 +43,17 @@ change_list-requires c =
 
 pub slice_bounds-read_list-end : goal.slice_bounds-read_list-end
 slice_bounds-read_list-end c =
-    let m = own_made c.requires.0 c.slice_known-1.given c.type_inv.new c.change_list.ensures c.in-Length.is in
+    let m = own_made c.requires.0 c.slice_known-1.given c.type_inv.new c.change_list.ensures c.in-Ok.is in
     omega (arith, ends m c.requires.0.work_room)
 
-pub slice_bounds-read_list-end-in-Length : goal.slice_bounds-read_list-end-in-Length
-slice_bounds-read_list-end-in-Length c =
-    let m = own_made c.requires.0 c.slice_known-1.given c.type_inv.new c.change_list.ensures c.in-Length.is in
+pub slice_bounds-read_list-end-in-Ok : goal.slice_bounds-read_list-end-in-Ok
+slice_bounds-read_list-end-in-Ok c =
+    let m = own_made c.requires.0 c.slice_known-1.given c.type_inv.new c.change_list.ensures c.in-Ok.is in
     simp length-take (omega (arith, ends m c.requires.0.work_room))
 
 pub returns-then-not-has_room : goal.returns-then-not-has_room
 returns-then-not-has_room c =
-    let m = own_made c.requires.0 c.slice_known-1.given c.type_inv.new c.change_list.ensures c.in-Length.is in
+    let m = own_made c.requires.0 c.slice_known-1.given c.type_inv.new c.change_list.ensures c.in-Ok.is in
     at_which _ _ c.args.request _ 1 c.requires.1
     (refuses pair_bytes pair_size _ _ _ _ TooManyBoxes
     (own_seven _ m.read m.inside _ _ _ m.whole m.changed c.requires.0.work_room (made_accepted m c.slice_known-3-1.given c.read_list.ensures c.in-Rules.is) (c.has_room.ensures.1 (not-true c.has_room.result c.if-not-has_room.true-raw)))
@@ -61,17 +61,17 @@ returns-then-not-has_room c =
 
 pub slice_bounds-put_own-end : goal.slice_bounds-put_own-end
 slice_bounds-put_own-end c =
-    let m = own_made c.requires.0 c.slice_known-1.given c.type_inv.new c.change_list.ensures c.in-Length.is in
+    let m = own_made c.requires.0 c.slice_known-1.given c.type_inv.new c.change_list.ensures c.in-Ok.is in
     omega (arith, ends m c.requires.0.work_room)
 
 pub slice_bounds-put_own-end-in-Rules : goal.slice_bounds-put_own-end-in-Rules
 slice_bounds-put_own-end-in-Rules c =
-    let m = own_made c.requires.0 c.slice_known-1.given c.type_inv.new c.change_list.ensures c.in-Length.is in
+    let m = own_made c.requires.0 c.slice_known-1.given c.type_inv.new c.change_list.ensures c.in-Ok.is in
     simp length-take (omega (arith, ends m c.requires.0.work_room))
 
 pub put_own-requires : goal.put_own-requires
 put_own-requires c =
-    let m = own_made c.requires.0 c.slice_known-1.given c.type_inv.new c.change_list.ensures c.in-Length.is in
+    let m = own_made c.requires.0 c.slice_known-1.given c.type_inv.new c.change_list.ensures c.in-Ok.is in
     own_put _ m.read m.inside _ _ _ m.whole m.changed c.requires.0.work_room (made_accepted m c.slice_known-3-1.given c.read_list.ensures c.in-Rules.is) (c.has_room.ensures.0 (not-false c.has_room.result c.if-not-has_room.false-raw)) c.requires.0.sheet_room
 
 pub returns-in-Refused : goal.returns-in-Refused
@@ -82,11 +82,11 @@ returns-in-Refused c =
 
 pub returns-in-Refused-read_list : goal.returns-in-Refused-read_list
 returns-in-Refused-read_list c =
-    let m = own_made c.requires.0 c.slice_known-1.given c.type_inv.new c.change_list.ensures c.in-Length.is in
+    let m = own_made c.requires.0 c.slice_known-1.given c.type_inv.new c.change_list.ensures c.in-Ok.is in
     at_which _ _ c.args.request _ 1 c.requires.1
     (refuses pair_bytes pair_size _ _ _ _ _ (own_refuses _ m.read m.inside _ _ _ m.whole m.changed c.requires.0.work_room c.in-Refused-read_list.f (list_refused c.read_list.ensures c.in-Refused-read_list.f c.in-Refused-read_list.is)) (own_beyond _ m.read m.inside _ _ _ m.whole m.changed c.requires.0.work_room))
 
 pub returns-else-not-has_room : goal.returns-else-not-has_room
 returns-else-not-has_room c =
-    let m = own_made c.requires.0 c.slice_known-1.given c.type_inv.new c.change_list.ensures c.in-Length.is in
+    let m = own_made c.requires.0 c.slice_known-1.given c.type_inv.new c.change_list.ensures c.in-Ok.is in
     at_which _ _ c.args.request _ 1 c.requires.1 (own_done _ m.read m.inside _ _ _ m.whole m.changed c.requires.0.work_room (made_accepted m c.slice_known-3-1.given c.read_list.ensures c.in-Rules.is) (c.has_room.ensures.0 (not-false c.has_room.result c.if-not-has_room.false-raw)) c.requires.0.sheet_room c.put_own.ensures)

@@ -1,10 +1,9 @@
 -- `scan` meets its contract: the outer invariant says what is left of the search, the inner one that every field passed is in
 -- its range, whatever the order. Assumes nothing.
-use Rattle.std.proofs.Common.{◌≡◌, ◌-◌, true, length, sym, refl, ◌∙◌, arith, rules}
-use borrow.Author.Tests.{not-true, not-false}
+use Rattle.std.proofs.Common.{◌≡◌, ◌≤◌, ◌-◌, true, length, get_or, sym, refl, ap, subst, ◌∙◌, arith, rules}
 use Rattle.lists.proofs.Both.{above_more}
 use Rattle.policy.specs.Fields.{fields, widths, highest}
-use Rattle.policy.specs.Ranges.{Region, Whole}
+use Rattle.policy.specs.Ranges.{Range, Region, within, Whole}
 use Rattle.policy.specs.Rules.{sound}
 use Rattle.policy.specs.Values.{region_of, rule_of}
 use Rattle.policy.specs.declared.Rule.{Rule}
@@ -15,16 +14,16 @@ use Rattle.filter.proofs.Lookups.{left_all, bad_rule, rule_fits, rule_misses, no
 use Rattle.filter.proofs.scan.Goals as goal
 
 pub rules-init : goal.rules-init
-rules-init c = (search rules, left_all c.args.p.values c.args.list.now c.args.count)
+rules-init c = left_all c.args.p.values c.args.list.now c.args.count
 
 pub returns-then-not-is_sound : goal.returns-then-not-is_sound
 returns-then-not-is_sound c =
     let a = c.args in
-    bad_rule a.p.values a.list.now a.count c.rules.i c.rules.invariant.1 c.rules-test.true (rule_of c.rule_at-r.result) c.rule_at-r.ensures
-    (sym c.is_sound.ensures ∙ not-true _ c.if-not-is_sound.true-raw)
+    bad_rule a.p.values a.list.now a.count c.rules.i c.rules.invariant c.rules-test.true (rule_of c.rule_at-r.result) c.rule_at-r.ensures
+    (sym c.is_sound.ensures ∙ c.if-not-is_sound.true)
 
 pub fields-init : goal.fields-init
-fields-init c = (refl, search rules, λ j l h. absurd (omega arith))
+fields-init c = (refl, λ j l h. absurd (omega arith))
 
 pub is_within-requires : goal.is_within-requires
 is_within-requires c =
@@ -34,7 +33,7 @@ is_within-requires c =
     let region_long : length region ≡ fields = fits-length widths region (sound_fits (rule_of value) is_sound).0 in
     let region_whole : Whole region = proper_whole highest region (rule_proper (rule_of value) is_sound) in
     let h = range_whole region (c.fields.k - 1) region_whole (omega (arith, region_long)) in
-    omega (arith, c.low_at.ensures.0, c.high_at.ensures.0)
+    subst (λ (r : Range). r.low ≤ r.high) (sym c.range.ensures) h
 
 pub rules-preserved : goal.rules-preserved
 rules-preserved c =
@@ -43,17 +42,15 @@ rules-preserved c =
     let is_sound : sound (rule_of value) ≡ true = search rules in
     let region_long : length region ≡ fields = fits-length widths region (sound_fits (rule_of value) is_sound).0 in
     let packet_long : length c.args.p.values ≡ fields = search rules in
-    let missed = rw (c.low_at.ensures.0, c.high_at.ensures.0) at (sym c.is_within.ensures ∙ not-true _ c.if-not-is_within.true-raw) in
-    let outside = outside_at c.args.p.values region (c.fields.k - 1) (omega (arith, packet_long)) (omega (arith, region_long)) missed in (
-      omega (arith, c.rules-test.true),
-      rule_misses c.args.p.values c.args.list.now c.args.count c.rules.i c.rules.invariant.1 c.rules-test.true (rule_of value) c.rule_at-r.ensures is_sound outside,
-    )
+    let missed = sym (c.is_within.ensures ∙ ap (within (get_or c.args.p.values (c.fields.k - 1) 0)) c.range.ensures) ∙ c.if-not-is_within.true in
+    let outside = outside_at c.args.p.values region (c.fields.k - 1) (omega (arith, packet_long)) (omega (arith, region_long)) missed in
+    rule_misses c.args.p.values c.args.list.now c.args.count c.rules.i c.rules.invariant c.rules-test.true (rule_of value) c.rule_at-r.ensures is_sound outside
 
 pub fields-preserved : goal.fields-preserved
 fields-preserved c =
     let region : Region = region_of c.rule_at-r.result.bounds in
-    let h = rw (c.low_at.ensures.0, c.high_at.ensures.0) at (sym c.is_within.ensures ∙ not-false _ c.if-not-is_within.false-raw) in
-    (c.fields.invariant.0, omega arith, above_more (InRange c.args.p.values region) fields c.fields.k c.fields.invariant.2 h)
+    let h = sym (c.is_within.ensures ∙ ap (within (get_or c.args.p.values (c.fields.k - 1) 0)) c.range.ensures) ∙ c.if-not-is_within.false in
+    (c.fields.invariant.0, above_more (InRange c.args.p.values region) fields c.fields.k c.fields.invariant.1 h)
 
 pub returns-in-rules : goal.returns-in-rules
 returns-in-rules c =
@@ -63,10 +60,10 @@ returns-in-rules c =
     let region_long : length region ≡ fields = fits-length widths region (sound_fits (rule_of value) is_sound).0 in
     let packet_long : length c.args.p.values ≡ fields = search rules in
     rw c.fields.invariant.0 (
-    rule_fits c.args.p.values c.args.list.now c.args.count c.rules.i c.rules.invariant.1 c.rules-test.true (rule_of value) c.rule_at-r.ensures is_sound
-    (all_inside c.args.p.values region (packet_long ∙ sym region_long) (λ j h. c.fields.invariant.2 j (omega arith) (omega (arith, packet_long)))))
+    rule_fits c.args.p.values c.args.list.now c.args.count c.rules.i c.rules.invariant c.rules-test.true (rule_of value) c.rule_at-r.ensures is_sound
+    (all_inside c.args.p.values region (packet_long ∙ sym region_long) (λ j h. c.fields.invariant.1 j (omega arith) (omega (arith, packet_long)))))
 
 pub returns : goal.returns
 returns c =
     let a = c.args in
-    none_fits_lem a.p.values a.list.now a.count c.rules.i c.rules.invariant.1 c.rules-test.false
+    none_fits_lem a.p.values a.list.now a.count c.rules.i c.rules.invariant c.rules-test.false

@@ -5,7 +5,7 @@ use Rattle.foldplover.proofs.Codes.{length_small, refused_number}
 use Rattle.foldplover.proofs.answer_number.Goals as goal
 
 pub overflow_cast-result : goal.overflow_cast-result
-overflow_cast-result c = let h = length_small c.args.a c.requires _ c.in-Length.is in omega arith
+overflow_cast-result c = let h = length_small c.args.a c.requires _ c.in-Ok.is in omega arith
 
-pub returns-in-Refused : goal.returns-in-Refused
-returns-in-Refused c = c.refused_number.ensures ∙ refused_number c.args.a _ c.in-Refused.is
+pub returns-in-Err : goal.returns-in-Err
+returns-in-Err c = c.refused_number.ensures ∙ refused_number c.args.a _ c.in-Err.is

@@ -1,14 +1,22 @@
 -- `cut_box` meets its contract: the loop's invariant says what is left of the cut from field k on. Assumes nothing.
 use borrow.Author.Rules.{rules}
 use native.Mathlib.Omega.{arith}
-use mathlib.Core.Path.{◌≡◌, ◌∙◌}
+use mathlib.Core.Path.{◌≡◌, ap, ◌∙◌}
+use Prim.Native.Nat.{ℕ}
+use Rattle.policy.specs.Ranges.{Range}
 use lib.ListN.{length}
 use Rattle.policy.specs.Fields.{fields}
 use Rattle.policy.specs.Values.{region_of}
 use Rattle.policy.proofs.Values.{ranges-length}
 use Rattle.groups.proofs.Cutting.{cutting_first, cutting_at, cutting_cut, cutting_past, cutting_last}
 use Rattle.groups.proofs.cut_box.Goals as goal
-use Rattle.groups.proofs.cut_box.Goals.{then-low-from, else-low-from+then-to-high, else-low-from+else-to-high}
+use Rattle.groups.proofs.cut_box.Goals.{then-own-other, else-own-other+then-other-own, else-own-other+else-other-own}
+
+abbrev low_of : Range → ℕ
+low_of r = r.low
+
+abbrev high_of : Range → ℕ
+high_of r = r.high
 
 pub loop-k-init : goal.loop-k-init
 loop-k-init c =
@@ -21,21 +29,21 @@ loop-k-init c =
 
 pub cut_field-done-requires : goal.cut_field-done-requires
 cut_field-done-requires c =
-    cutting_at c.loop-k.invariant c.loop-k-test.true c.low_at-low.ensures.0 c.high_at-high.ensures.0 c.low_at-from.ensures.0 c.high_at-to.ensures.0 c.args.at c.requires.capacity_in_bounds.0 c.requires.capacity_in_bounds.1 c.requires.capacity_in_bounds.2 c.requires.written
+    cutting_at c.loop-k.invariant c.loop-k-test.true (ap low_of c.range-own.ensures) (ap high_of c.range-own.ensures) (ap low_of c.range-other.ensures) (ap high_of c.range-other.ensures) c.args.at c.requires.capacity_in_bounds.0 c.requires.capacity_in_bounds.1 c.requires.capacity_in_bounds.2 c.requires.written
 
-pub cut_field-done-requires-then-to-high : goal.cut_field-done-requires-then-to-high
-cut_field-done-requires-then-to-high c =
-    cutting_at c.loop-k.invariant c.loop-k-test.true c.low_at-low.ensures.0 c.high_at-high.ensures.0 c.low_at-from.ensures.0 c.high_at-to.ensures.0 c.args.at c.requires.capacity_in_bounds.0 c.requires.capacity_in_bounds.1 c.requires.capacity_in_bounds.2 c.requires.written
+pub cut_field-done-requires-then-other-own : goal.cut_field-done-requires-then-other-own
+cut_field-done-requires-then-other-own c =
+    cutting_at c.loop-k.invariant c.loop-k-test.true (ap low_of c.range-own.ensures) (ap high_of c.range-own.ensures) (ap low_of c.range-other.ensures) (ap high_of c.range-other.ensures) c.args.at c.requires.capacity_in_bounds.0 c.requires.capacity_in_bounds.1 c.requires.capacity_in_bounds.2 c.requires.written
 
 pub loop-k-preserved : goal.loop-k-preserved
 loop-k-preserved c =
     let g = c.loop-k.invariant in
     let t = c.loop-k-test.true in
-    let cut = cutting_cut g t c.low_at-low.ensures.0 c.high_at-high.ensures.0 c.low_at-from.ensures.0 c.high_at-to.ensures.0 in
-    elim c.if-low-from.branch [
-      | then-low-from w ↦ rw (w.done-is, w.work-is) (cut _ _ (omega (arith, c.requires.capacity_in_bounds.0)) w.cut_field-done.ensures)
-      | else-low-from+then-to-high w ↦ rw (w.done-is, w.work-is) (cut _ _ (omega (arith, c.requires.capacity_in_bounds.0)) w.cut_field-done-then-to-high.ensures)
-      | else-low-from+else-to-high w ↦ rw (w.done-is, w.work-is) (cutting_past g t (omega (arith, c.requires.capacity_in_bounds.0)) (omega (arith, c.low_at-from.ensures.0, c.low_at-low.ensures.0, w.if-low-from.false)) (omega (arith, c.high_at-to.ensures.0, c.high_at-high.ensures.0, w.if-to-high.false)))
+    let cut = cutting_cut g t (ap low_of c.range-own.ensures) (ap high_of c.range-own.ensures) (ap low_of c.range-other.ensures) (ap high_of c.range-other.ensures) in
+    elim c.if-own-other.branch [
+      | then-own-other w ↦ rw (w.done-is, w.work-is) (cut _ _ (omega (arith, c.requires.capacity_in_bounds.0)) w.cut_field-done.ensures)
+      | else-own-other+then-other-own w ↦ rw (w.done-is, w.work-is) (cut _ _ (omega (arith, c.requires.capacity_in_bounds.0)) w.cut_field-done-then-other-own.ensures)
+      | else-own-other+else-other-own w ↦ rw (w.done-is, w.work-is) (cutting_past g t (omega (arith, c.requires.capacity_in_bounds.0)) (omega (arith, (ap low_of c.range-other.ensures), (ap low_of c.range-own.ensures), w.if-own-other.false)) (omega (arith, (ap high_of c.range-other.ensures), (ap high_of c.range-own.ensures), w.if-other-own.false)))
     ]
 
 pub shape_of-work : goal.shape_of-work

@@ -1,14 +1,10 @@
 -- `put_numbers` meets its contract: the lows, the highs and the action are stored one behind the other. Assumes nothing.
 use borrow.Author.Rules.{rules}
-use lib.ListN.{length-set, length}
-use native.Mathlib.Omega.{arith}
+use lib.ListN.{length}
 use mathlib.Core.Path.{◌≡◌}
 use Rattle.policy.specs.Fields.{fields}
 use Rattle.records.proofs.Calls.{numbers_put}
 use Rattle.records.proofs.put_numbers.Goals as goal
-
-pub shape_of-numbers : goal.shape_of-numbers
-shape_of-numbers c = simp length-set (omega arith)
 
 pub returns : goal.returns
 returns c =

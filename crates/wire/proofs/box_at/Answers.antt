@@ -10,22 +10,12 @@ use Rattle.wire.proofs.box_at.Goals as goal
 
 pub loop-k-init : goal.loop-k-init
 unfolding ranges
-loop-k-init c = (search rules, search rules, search rules, omega arith, refl)
+loop-k-init c = (search rules, search rules, omega arith, refl)
 
 pub range_at-r-requires : goal.range_at-r-requires
 range_at-r-requires c =
     let z = size_step widths c.loop-k.k (omega arith) in
     (omega arith, width_at c.loop-k.k (omega arith))
-
-pub overflow_add-p : goal.overflow_add-p
-overflow_add-p c =
-    let z = size_step widths c.loop-k.k (omega arith) in
-    omega arith
-
-pub overflow_add-p-in-loop-k : goal.overflow_add-p-in-loop-k
-overflow_add-p-in-loop-k c =
-    let z = size_step widths c.loop-k.k (omega arith) in
-    omega arith
 
 pub loop-k-preserved : goal.loop-k-preserved
 loop-k-preserved c =
@@ -33,14 +23,13 @@ loop-k-preserved c =
     let s = c.args.s.now in
     let t : h.k < fields = omega arith in
     let z = size_step widths h.k t in (
-      omega arith,
       search rules,
       search rules,
       omega arith,
-      read_next widths h.k t s h.low h.high h.p c.range_at-r.result.low c.range_at-r.result.high _ (cc) (omega arith) c.range_at-r.ensures.0 c.range_at-r.ensures.1 h.invariant.4,
+      read_next widths h.k t s h.low h.high h.p c.range_at-r.result.low c.range_at-r.result.high _ (cc) (omega arith) c.range_at-r.ensures.0 c.range_at-r.ensures.1 h.invariant.3,
     )
 
 pub returns : goal.returns
 returns c =
     let h = c.loop-k in
-    read_last widths c.args.s.now h.low h.high h.p h.k _ (omega arith) (omega arith) (omega arith) h.invariant.4
+    read_last widths c.args.s.now h.low h.high h.p h.k _ (omega arith) (omega arith) (omega arith) h.invariant.3

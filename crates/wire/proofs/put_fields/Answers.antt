@@ -1,7 +1,7 @@
 -- `put_fields` meets its contract: the loop's invariant says that what is left to store gives the first n fields. Assumes nothing.
 use borrow.Author.Rules.{rules}
 use native.Mathlib.Omega.{arith}
-use mathlib.Core.Path.{◌≡◌, refl, ap}
+use mathlib.Core.Path.{◌≡◌, ap}
 use Prim.Native.Nat.{◌<◌}
 use lib.ListN.{length}
 use Rattle.policy.specs.Fields.{fields, widths}
@@ -9,33 +9,15 @@ use Rattle.wire.proofs.Steps.{size_step, width_at, fields_next, fields_past, fie
 use Rattle.wire.proofs.put_fields.Goals as goal
 use Rattle.wire.proofs.put_fields.Goals.{then-k-n, else-k-n}
 
-pub loop-k-init : goal.loop-k-init
-loop-k-init c = (search rules, refl, omega arith, refl)
-
 pub put_number-requires : goal.put_number-requires
 put_number-requires c =
     let z = size_step widths c.loop-k.k (omega arith) in
     (omega arith, width_at c.loop-k.k (omega arith))
 
-pub overflow_add-p : goal.overflow_add-p
-overflow_add-p c =
-    let z = size_step widths c.loop-k.k (omega arith) in
-    omega arith
-
 pub put_number-requires-then-k-n : goal.put_number-requires-then-k-n
 put_number-requires-then-k-n c =
     let z = size_step widths c.loop-k.k (omega arith) in
     (omega arith, width_at c.loop-k.k (omega arith))
-
-pub overflow_add-p-in-loop-k : goal.overflow_add-p-in-loop-k
-overflow_add-p-in-loop-k c =
-    let z = size_step widths c.loop-k.k (omega arith) in
-    omega arith
-
-pub overflow_add-p-in-loop-k-2 : goal.overflow_add-p-in-loop-k-2
-overflow_add-p-in-loop-k-2 c =
-    let z = size_step widths c.loop-k.k (omega arith) in
-    omega arith
 
 pub loop-k-preserved : goal.loop-k-preserved
 loop-k-preserved c =
@@ -47,16 +29,12 @@ loop-k-preserved c =
     let r : length a.b.high ≡ fields = search rules in
     elim c.if-k-n.branch [
       | then-k-n w ↦ (
-        omega arith,
         omega (arith, ap length w.out-is),
-        omega (arith, ap length w.out-is),
-        rw (w.out-is, w.put_number-then-k-n.ensures, w.put_number.ensures) (fields_next a.n s.k s.out a.b.low a.b.high s.p _ s.invariant.3 w.if-k-n.true t (cc) (omega arith)),
+        rw (w.out-is, w.put_number-then-k-n.ensures, w.put_number.ensures) (fields_next a.n s.k s.out a.b.low a.b.high s.p _ s.invariant.1 w.if-k-n.true t (cc) (omega arith)),
       )
       | else-k-n w ↦ (
-        omega arith,
         omega (arith, ap length w.out-is),
-        omega (arith, ap length w.out-is),
-        rw w.out-is (fields_past a.n s.k s.out a.b.low a.b.high s.p _ s.invariant.3 w.if-k-n.false _),
+        rw w.out-is (fields_past a.n s.k s.out a.b.low a.b.high s.p _ s.invariant.1 w.if-k-n.false _),
       )
     ]
 
@@ -64,4 +42,4 @@ pub returns : goal.returns
 returns c =
     let s = c.loop-k in
     let a = c.args in
-    fields_last a.n s.k s.out a.b.low a.b.high s.p _ s.invariant.3 c.loop-k-test.false
+    fields_last a.n s.k s.out a.b.low a.b.high s.p _ s.invariant.1 c.loop-k-test.false

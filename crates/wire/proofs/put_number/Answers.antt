@@ -1,20 +1,13 @@
--- `put_number` meets its contract: a width is 4, 2 or 1. Assumes nothing.
-use native.Mathlib.Omega.{arith}
-use Rattle.wire.proofs.Numbers.{last_width}
+-- `put_number` meets its contract: the last bytes of the number's four are stored. Assumes nothing.
+use mathlib.Core.Path.{ap, ◌∙◌}
+use lib.Seq.{sets}
+use Rattle.wire.proofs.Numbers.{width_most, last_bytes}
 use Rattle.wire.proofs.put_number.Goals as goal
 
-pub returns-then-w-eq4 : goal.returns-then-w-eq4
-returns-then-w-eq4 c = cc
-
-pub returns-then-w-eq2 : goal.returns-then-w-eq2
-returns-then-w-eq2 c = cc
-
-pub put_one-requires : goal.put_one-requires
-put_one-requires c =
-    let e = last_width c.args.w c.requires.1 c.if-w-eq4.false c.if-w-eq2.false in
-    omega arith
+pub overflow_sub-w : goal.overflow_sub-w
+overflow_sub-w c = width_most c.args.w c.requires.1
 
 pub returns : goal.returns
 returns c =
-    let e = last_width c.args.w c.requires.1 c.if-w-eq4.false c.if-w-eq2.false in
-    cc
+    let a = c.args in
+    c.put_bytes.ensures.1 ∙ ap (sets a.out.now a.at) (last_bytes a.w a.x c.to_be_bytes-bytes.result (width_most a.w c.requires.1) c.to_be_bytes-bytes.ensures)

@@ -14,4 +14,4 @@ returns c =
     let b = a.r.bounds in
     let l : length b.low ≡ fields = search rules in
     let h : length b.high ≡ fields = search rules in
-    rule_put a.out.now _ _ a.at (rule_of a.r) (ranges-length b.low b.high (cc) ∙ l) c.put_box.ensures c.put_one.ensures
+    rule_put a.out.now _ _ a.at (rule_of a.r) (ranges-length b.low b.high (cc) ∙ l) c.put_box.ensures c.put_number.ensures

@@ -6,4 +6,4 @@ use Rattle.wire.proofs.rule_at.Goals as goal
 pub returns : goal.returns
 returns c =
     let a = c.args in
-    rule_read a.s.now a.at (region_of c.box_at-bounds.result) c.one_at.result c.box_at-bounds.ensures c.one_at.ensures
+    rule_read a.s.now a.at (region_of c.box_at-bounds.result) c.number_at.result c.box_at-bounds.ensures c.number_at.ensures

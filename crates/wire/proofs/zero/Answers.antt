@@ -1,24 +1,18 @@
--- `zero` meets its contract: the loop's invariant says up to where the bytes are zero. Assumes nothing.
-use borrow.Author.Rules.{rules}
+-- `zero` meets its contract. Assumes nothing.
 use native.Mathlib.Omega.{arith}
-use mathlib.Core.Path.{◌≡◌, refl, ap, ◌∙◌}
-use Prim.Native.Nat.{ℕ}
+use mathlib.Core.Path.{◌≡◌}
+use mathlib.Core.List.{List}
+use Prim.Native.Nat.{ℕ, ◌+◌, ◌-◌}
+use lib.ListN.{length, take, drop, length-drop}
+use lib.Seq.{drop-drop, length-take-le}
 use Rattle.wire.specs.Buffers.{zeroed}
-use Rattle.wire.proofs.Buffers.{zeroed_none, zeroed_next}
 use Rattle.wire.proofs.zero.Goals as goal
 
-pub loop-i-init : goal.loop-i-init
-loop-i-init c = (search rules, search rules, refl, zeroed_none c.args.from c.args.out.now)
-
-pub loop-i-preserved : goal.loop-i-preserved
-loop-i-preserved c =
-    let h = c.loop-i in
-    let a = c.args in
-    (search rules, search rules, search rules, rw h.invariant.3 (zeroed_next a.from a.out.now h.i h.invariant.0 (omega arith)))
-
 pub returns : goal.returns
+unfolding zeroed
 returns c =
-    let h = c.loop-i in
     let a = c.args in
-    let e : h.i ≡ a.to = omega arith in
-    h.invariant.3 ∙ ap (λ (n : ℕ). zeroed a.from n a.out.now) e
+    let s : List ℕ = drop a.from a.out.now in
+    let n : length (take (a.to - a.from) s) ≡ a.to - a.from = length-take-le (a.to - a.from) s (rw length-drop (omega arith)) in
+    let e : a.from + (a.to - a.from) ≡ a.to = omega arith in
+    rw (c.fill.ensures.after (λ y h. h), n, drop-drop (a.to - a.from) a.from a.out.now, e)

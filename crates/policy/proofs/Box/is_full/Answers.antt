@@ -1,46 +1,22 @@
--- `Box::is_full` meets its contract: the loop's invariant says that every field passed is full. Assumes nothing.
-use borrow.Author.Rules.{rules}
-use borrow.Author.Count.{below_more}
-use borrow.Author.Tests.{not-true, not-false}
-use native.Mathlib.Omega.{arith}
-use mathlib.Core.Path.{◌≡◌, ap, sym, ◌∙◌}
-use lib.ListN.{length, get_or}
+-- `Box::is_full` meets its contract: the range is full in every field. Assumes nothing.
+use Rattle.std.proofs.Common.{rules, tests, ◌≡◌, ℕ, Bool, length, ◌∙◌, sym, refl, ap, arith, get_or}
+use Rattle.std.proofs.lemmas.Iterator.{YieldsList-from_range}
+use Rattle.std.proofs.lemmas.Iterator.Search.{all_from_yields_List}
 use Rattle.policy.specs.Fields.{fields, highest}
 use Rattle.policy.specs.Ranges.{range, Region, full_range}
 use Rattle.policy.specs.Values.{region_of}
-use Rattle.lists.proofs.Both.{fails_at, holds_of_each}
-use Rattle.policy.proofs.Values.{ranges-length, range_read}
+use Rattle.policy.specs.Steps.{range_at}
+use Rattle.policy.proofs.Fields.{all_numbers}
+use Rattle.policy.proofs.Values.{ranges-length}
 use Rattle.policy.proofs.Box.is_full.Goals as goal
-use Rattle.policy.proofs.Box.is_full.Invariants.{FullAt}
-
-pub loop-k-init : goal.loop-k-init
-loop-k-init c =
-    let b = c.args.self in
-    let l : length b.low ≡ fields = search rules in
-    let h : length b.high ≡ fields = search rules in
-    (search rules, ranges-length b.low b.high (cc) ∙ l, λ j h. absurd (omega arith))
-
-pub returns-then-not-is_full_range : goal.returns-then-not-is_full_range
-unfolding highest
-returns-then-not-is_full_range c =
-    let s = c.loop-k in
-    let b : Region = region_of c.args.self in
-    let t = c.is_full_range.ensures ∙ ap (full_range (get_or highest s.k 0)) (range_read b s.k c.low_at.ensures.0 c.high_at.ensures.0) in
-    sym (fails_at full_range 0 (range 0 0) highest b s.k (omega arith) (omega arith) (sym t ∙ not-true _ c.if-not-is_full_range.true-raw))
-
-pub loop-k-preserved : goal.loop-k-preserved
-unfolding highest
-loop-k-preserved c =
-    let s = c.loop-k in
-    let b : Region = region_of c.args.self in
-    let t = c.is_full_range.ensures ∙ ap (full_range (get_or highest s.k 0)) (range_read b s.k c.low_at.ensures.0 c.high_at.ensures.0) in (
-      omega arith,
-      s.invariant.1,
-      below_more (FullAt b) s.k s.invariant.2 (sym t ∙ not-false _ c.if-not-is_full_range.false-raw),
-    )
 
 pub returns : goal.returns
 unfolding highest
 returns c =
-    let s = c.loop-k in
-    sym (holds_of_each full_range 0 (range 0 0) highest (region_of c.args.self) (sym s.invariant.1) (λ k h. s.invariant.2 k (omega arith)))
+    let q = c.args in
+    let b : Region = region_of q.self in
+    let test : ℕ → Bool = λ k. full_range (get_or highest k 0) (range_at b k) in
+    let low : length q.self.low ≡ fields = search rules in
+    let high : length q.self.high ≡ fields = search rules in
+    all_from_yields_List test _ _ c.all.result c.all.ensures.ran (YieldsList-from_range 0 fields (length highest) refl refl) (λ x b q k. search (rules, tests))
+    ∙ all_numbers full_range 0 (range 0 0) test highest b 0 (sym (ranges-length q.self.low q.self.high (cc) ∙ low)) (λ j. ap test (omega arith))

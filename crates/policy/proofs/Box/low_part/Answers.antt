@@ -11,4 +11,4 @@ returns c =
     let b = c.args.self in
     let l : length b.low ≡ fields = search rules in
     let h : length b.high ≡ fields = search rules in
-    rw (ranges_at b.low b.high c.args.k (cc), ← c.value_at.ensures) c.narrow.ensures
+    rw (ranges_at b.low b.high c.args.k (cc), ← c.value_at-low.ensures) c.narrow.ensures
