@@ -11,7 +11,6 @@ use Rattle.policy.specs.Ranges.{Range, Region}
 use Rattle.wire.specs.Records.{ranges_bytes, box_bytes}
 use Rattle.wire.proofs.Records.{ranges_bytes-length, ranges_split, size_split}
 use Rattle.groups.specs.Steps.{LaterStand}
-use Rattle.groups.proofs.Pieces.{bytes_alike}
 
 -- What is stored over the front of what was stored there before.
 sets_over : (l u v : List ℕ) (i : ℕ) → i + length u ≤ length l → length v ≤ length u → sets (sets l i u) i v ≡ sets l i (v ++ drop (length v) u)
@@ -32,28 +31,22 @@ front_size : (n : ℕ) (b : Region) → length b ≡ fields → length (ranges_b
 front_size n b full = ranges_bytes-length (take n widths) b (omega (arith, length-take n widths))
 
 module _ (k : ℕ) (b : Region) where
-  pub part_stored : length b ≡ fields → (work copied last : List ℕ) (at to : ℕ) → at + box_size ≤ length work → to + box_size ≤ length work → LaterStand k b at work
-      → copied ≡ sets work to (take box_size (drop at work)) → last ≡ sets copied to (ranges_bytes (take (k + 1) widths) b) → last ≡ sets work to (box_bytes b)
-  part_stored full work copied last at to g r later e f =
-      let u : List ℕ = take box_size (drop at work) in
-      let v : List ℕ = ranges_bytes (take (k + 1) widths) b in
-      let lu : length u ≡ box_size = length-take-le box_size (drop at work) (omega (arith, length-drop at work)) in
-      let lv = front_size (k + 1) b full in
-      let z = size_split (k + 1) widths in
-      let tail : drop (length v) u ≡ ranges_bytes (drop (k + 1) widths) (drop (k + 1) b) = rw lv later in
-      let whole : v ++ drop (length v) u ≡ box_bytes b = ap (λ (s : List ℕ). v ++ s) tail ∙ sym (ranges_split (k + 1) widths b) in
-      f ∙ (ap (λ (s : List ℕ). sets s to v) e ∙ (sets_over work u v to (omega arith) (omega arith) ∙ ap (sets work to) whole))
+  pub part_stored : length b ≡ fields → (piece out copied last : List ℕ) (to : ℕ) → length piece ≡ box_size → to + box_size ≤ length out → LaterStand k b piece
+      → copied ≡ sets out to piece → last ≡ sets copied to (ranges_bytes (take k widths) b) → last ≡ sets out to (box_bytes b)
+  part_stored full piece out copied last to long room later e f =
+      let v : List ℕ = ranges_bytes (take k widths) b in
+      let lv = front_size k b full in
+      let z = size_split k widths in
+      let tail : drop (length v) piece ≡ ranges_bytes (drop k widths) (drop k b) = rw lv later in
+      let whole : v ++ drop (length v) piece ≡ box_bytes b = ap (λ (s : List ℕ). v ++ s) tail ∙ sym (ranges_split k widths b) in
+      f ∙ (ap (λ (s : List ℕ). sets s to v) e ∙ (sets_over out piece v to (omega arith) (omega arith) ∙ ap (sets out to) whole))
 
-  -- A box that begins at `at` has its own later fields there, and so has one with the same later fields.
-  pub later_own : (work : List ℕ) (at : ℕ) (d : Region) → length d ≡ fields → take box_size (drop at work) ≡ box_bytes d → drop (k + 1) b ≡ drop (k + 1) d → LaterStand k b at work
-  later_own work at d ld e later =
-      rw (e, ranges_split (k + 1) widths d, later)
-      (drop_at (ranges_bytes (take (k + 1) widths) d) (ranges_bytes (drop (k + 1) widths) (drop (k + 1) d)) (size_of (take (k + 1) widths)) (front_size (k + 1) d ld))
+  -- A piece that is d has its own later fields, and so has one with the same later fields.
+  pub later_own : (piece : List ℕ) (d : Region) → length d ≡ fields → piece ≡ box_bytes d → drop k b ≡ drop k d → LaterStand k b piece
+  later_own piece d ld e later =
+      rw (e, ranges_split k widths d, later)
+      (drop_at (ranges_bytes (take k widths) d) (ranges_bytes (drop k widths) (drop k d)) (size_of (take k widths)) (front_size k d ld))
 
-  -- A part has the later fields of the box.
-  pub later_part : (at : ℕ) (work : List ℕ) (part : Region) (r : Range) → part ≡ set b k r → LaterStand k b at work → LaterStand k part at work
-  later_part at work part r e later = rw (e, drop-set-lt (k + 1) b k r (omega arith)) later
-
-  -- The bytes stand there still.
-  pub later_kept : (at half : ℕ) (work work' : List ℕ) → take half work' ≡ take half work → at + box_size ≤ half → LaterStand k b at work → LaterStand k b at work'
-  later_kept at half work work' e h later = rw (bytes_alike at half work work' e h) later
+-- A part has the later fields of the box.
+pub later_part : (k : ℕ) (b : Region) (piece : List ℕ) (part : Region) (r : Range) → part ≡ set b k r → LaterStand (k + 1) b piece → LaterStand (k + 1) part piece
+later_part k b piece part r e later = rw (e, drop-set-lt (k + 1) b k r (omega arith)) later

@@ -1,13 +1,13 @@
--- Laws on the pieces that stand at the front of the work buffer. Assumes nothing.
+-- Laws on the pieces that stand at the front of the half. Assumes nothing.
 use mathlib.Core.Path.{◌≡◌, ap, sym, ◌∙◌}
 use mathlib.Core.List.{List, [], ◌∷◌, ◌++◌}
-use Prim.Native.Nat.{ℕ, zero, suc, ◌+◌, ◌-◌, ◌*◌, ◌<◌, ◌≤◌}
+use Prim.Native.Nat.{ℕ, ◌+◌, ◌-◌, ◌*◌, ◌<◌, ◌≤◌}
 use native.Mathlib.Omega.{arith}
 use native.Mathlib.Numerals.{add-one}
-use lib.ListN.{length, take, drop, take-append-drop}
-use lib.Seq.{take-add, take_at, take-nil, take-take, drop_at, drop-cons, length-take-le}
+use lib.ListN.{length, take, drop, length-drop, take-append-drop}
+use lib.Seq.{take-add, take_at, take-take, drop_at, drop-cons, length-take-le}
 use Rattle.lists.specs.Lists.{Each}
-use Rattle.lists.proofs.Lists.{each_imp, each_take, each-drop}
+use Rattle.lists.proofs.Lists.{append-none, each_imp, each_take, each-drop}
 use Rattle.policy.specs.Fields.{widths, box_size}
 use Rattle.policy.specs.Ranges.{Region}
 use Rattle.policy.specs.Rules.{Proper}
@@ -16,18 +16,6 @@ use Rattle.wire.proofs.Records.{proper_fits, box_bytes-length, box_back, boxes_b
 use Rattle.groups.specs.Steps.{Stands}
 use Rattle.wire.proofs.Items.{bytes-append}
 
-drop-take : {A : Type 0} (n m : ℕ) (l : List A) → drop n (take (n + m) l) ≡ take m (drop n l)
-drop-take zero m l = let e : 0 + m ≡ m = omega arith in ap (λ (k : ℕ). take k l) e
-drop-take (suc n) m [] = let e : suc n + m ≡ suc (n + m) = omega arith in rw (e, take-nil)
-drop-take (suc n) m (a ∷ l) = let e : suc n + m ≡ suc (n + m) = omega arith in rw e (drop-take n m l)
-
--- The bytes of a box that lies in the first half, in a buffer with the same first half.
-pub bytes_alike : (at half : ℕ) (work work' : List ℕ) → take half work' ≡ take half work → at + box_size ≤ half → take box_size (drop at work') ≡ take box_size (drop at work)
-bytes_alike at half work work' alike inside =
-    let q : (w : List ℕ) → take box_size (drop at w) ≡ drop at (take (at + box_size) (take half w)) =
-    λ w. sym (ap (drop at) (take-take (at + box_size) half w inside) ∙ drop-take at box_size w) in
-    q work' ∙ (ap (λ (w : List ℕ). drop at (take (at + box_size) w)) alike ∙ sym (q work))
-
 pub proper_all : (l : List Region) → Each Proper l → Each (Fits widths) l
 proper_all l h = each_imp Proper (Fits widths) l proper_fits h
 
@@ -35,56 +23,58 @@ proper_all l h = each_imp Proper (Fits widths) l proper_fits h
 pub boxes_next : (n i : ℕ) (s : List ℕ) → i < n → drop i (boxes_in n s) ≡ box_in (drop (box_size * i) s) ∷ drop (i + 1) (boxes_in n s)
 boxes_next n i s h = drop-cons (boxes_in n s) i [] (rw boxes_in-length h) ∙ rw (add-one, box_in_place i n s [] h)
 
-module _ {n : ℕ} {work : List ℕ} (st : Stands n work) (room : box_size * n ≤ length work) where
+module _ {n : ℕ} {pieces : List ℕ} (st : Stands n pieces) (room : box_size * n ≤ length pieces) where
   module _ (i : ℕ) (h : i ≤ n) where
     -- The bytes of the pieces before piece i, and of those from it on.
-    parts : take (box_size * i) work ++ take (box_size * (n - i)) (drop (box_size * i) work) ≡ boxes_bytes (take i (boxes_in n work)) ++ boxes_bytes (drop i (boxes_in n work))
+    parts : take (box_size * i) pieces ++ take (box_size * (n - i)) (drop (box_size * i) pieces) ≡ boxes_bytes (take i (boxes_in n pieces)) ++ boxes_bytes (drop i (boxes_in n pieces))
     parts =
         let e : box_size * n ≡ box_size * i + box_size * (n - i) = omega arith in
-        sym (take-add (box_size * i) (box_size * (n - i)) work)
-        ∙ (ap (λ (k : ℕ). take k work) (sym e) ∙ (st.written ∙ (ap boxes_bytes (sym (take-append-drop i (boxes_in n work))) ∙ bytes-append box_bytes (take i (boxes_in n work)) (drop i (boxes_in n work)))))
+        sym (take-add (box_size * i) (box_size * (n - i)) pieces)
+        ∙ (ap (λ (k : ℕ). take k pieces) (sym e) ∙ (st.written ∙ (ap boxes_bytes (sym (take-append-drop i (boxes_in n pieces))) ∙ bytes-append box_bytes (take i (boxes_in n pieces)) (drop i (boxes_in n pieces)))))
 
-    taken-length : length (take (box_size * i) work) ≡ box_size * i
-    taken-length = length-take-le (box_size * i) work (omega arith)
+    taken-length : length (take (box_size * i) pieces) ≡ box_size * i
+    taken-length = length-take-le (box_size * i) pieces (omega arith)
 
-    before-length : length (boxes_bytes (take i (boxes_in n work))) ≡ box_size * i
+    before-length : length (boxes_bytes (take i (boxes_in n pieces))) ≡ box_size * i
     before-length =
-        boxes_bytes-length (take i (boxes_in n work)) (proper_all (take i (boxes_in n work)) (each_take Proper i (boxes_in n work) st.each))
-        ∙ ap (λ (k : ℕ). box_size * k) (length-take-le i (boxes_in n work) (rw boxes_in-length h))
+        boxes_bytes-length (take i (boxes_in n pieces)) (proper_all (take i (boxes_in n pieces)) (each_take Proper i (boxes_in n pieces) st.each))
+        ∙ ap (λ (k : ℕ). box_size * k) (length-take-le i (boxes_in n pieces) (rw boxes_in-length h))
 
-    pub bytes_before : take (box_size * i) work ≡ boxes_bytes (take i (boxes_in n work))
+    pub bytes_before : take (box_size * i) pieces ≡ boxes_bytes (take i (boxes_in n pieces))
     bytes_before =
-        sym (take_at (take (box_size * i) work) (take (box_size * (n - i)) (drop (box_size * i) work)) (box_size * i) taken-length)
-        ∙ (ap (take (box_size * i)) parts ∙ take_at (boxes_bytes (take i (boxes_in n work))) (boxes_bytes (drop i (boxes_in n work))) (box_size * i) before-length)
+        sym (take_at (take (box_size * i) pieces) (take (box_size * (n - i)) (drop (box_size * i) pieces)) (box_size * i) taken-length)
+        ∙ (ap (take (box_size * i)) parts ∙ take_at (boxes_bytes (take i (boxes_in n pieces))) (boxes_bytes (drop i (boxes_in n pieces))) (box_size * i) before-length)
 
-    bytes_from : take (box_size * (n - i)) (drop (box_size * i) work) ≡ boxes_bytes (drop i (boxes_in n work))
+    bytes_from : take (box_size * (n - i)) (drop (box_size * i) pieces) ≡ boxes_bytes (drop i (boxes_in n pieces))
     bytes_from =
-        sym (drop_at (take (box_size * i) work) (take (box_size * (n - i)) (drop (box_size * i) work)) (box_size * i) taken-length)
-        ∙ (ap (drop (box_size * i)) parts ∙ drop_at (boxes_bytes (take i (boxes_in n work))) (boxes_bytes (drop i (boxes_in n work))) (box_size * i) before-length)
+        sym (drop_at (take (box_size * i) pieces) (take (box_size * (n - i)) (drop (box_size * i) pieces)) (box_size * i) taken-length)
+        ∙ (ap (drop (box_size * i)) parts ∙ drop_at (boxes_bytes (take i (boxes_in n pieces))) (boxes_bytes (drop i (boxes_in n pieces))) (box_size * i) before-length)
 
   -- Piece i.
   module _ (i : ℕ) (h : i < n) where
-    pub fits_at : Fits widths (box_in (drop (box_size * i) work))
+    pub fits_at : Fits widths (box_in (drop (box_size * i) pieces))
     unfolding Each
-    fits_at = proper_fits (box_in (drop (box_size * i) work)) (rw (boxes_next n i work h) at (each-drop Proper i (boxes_in n work) st.each)).0
+    fits_at = proper_fits (box_in (drop (box_size * i) pieces)) (rw (boxes_next n i pieces h) at (each-drop Proper i (boxes_in n pieces) st.each)).0
 
-    bytes_at : take box_size (drop (box_size * i) work) ≡ box_bytes (box_in (drop (box_size * i) work))
+    bytes_at : take box_size (drop (box_size * i) pieces) ≡ box_bytes (box_in (drop (box_size * i) pieces))
     unfolding each_bytes
     bytes_at =
-        let s : List ℕ = drop (box_size * i) work in
+        let s : List ℕ = drop (box_size * i) pieces in
         sym (take-take box_size (box_size * (n - i)) s (omega arith))
-        ∙ (ap (take box_size) (bytes_from i (omega arith) ∙ ap boxes_bytes (boxes_next n i work h)) ∙ take_at (box_bytes (box_in s)) (boxes_bytes (drop (i + 1) (boxes_in n work))) box_size (box_bytes-length (box_in s) fits_at))
+        ∙ (ap (take box_size) (bytes_from i (omega arith) ∙ ap boxes_bytes (boxes_next n i pieces h)) ∙ take_at (box_bytes (box_in s)) (boxes_bytes (drop (i + 1) (boxes_in n pieces))) box_size (box_bytes-length (box_in s) fits_at))
 
-    -- The same in a buffer with the same first half, in which the piece lies.
-    module _ (half : ℕ) (work' : List ℕ) (alike : take half work' ≡ take half work) (inside : box_size * i + box_size ≤ half) where
-      same_bytes : take box_size (drop (box_size * i) work') ≡ take box_size (drop (box_size * i) work)
-      same_bytes = bytes_alike (box_size * i) half work work' alike inside
+    -- The part of the half that is the piece, read as the piece, and the piece's bytes.
+    module _ (size : ℕ) (e : size ≡ box_size) where
+      abbrev piece : List ℕ
+      piece = take size (drop (box_size * i) pieces)
 
-      pub piece_alike : box_in (drop (box_size * i) work') ≡ box_in (drop (box_size * i) work)
-      piece_alike =
-          let b : Region = box_in (drop (box_size * i) work) in
-          ap box_in (sym (take-append-drop box_size (drop (box_size * i) work')) ∙ ap (λ (s : List ℕ). s ++ drop box_size (drop (box_size * i) work')) (same_bytes ∙ bytes_at))
-          ∙ box_back b (drop box_size (drop (box_size * i) work')) fits_at
+      pub piece_read : box_in piece ≡ box_in (drop (box_size * i) pieces)
+      piece_read =
+          let b : Region = box_in (drop (box_size * i) pieces) in
+          ap box_in (ap (λ (k : ℕ). take k (drop (box_size * i) pieces)) e ∙ bytes_at ∙ sym (append-none (box_bytes b))) ∙ box_back b [] fits_at
 
-      pub written_alike : take box_size (drop (box_size * i) work') ≡ box_bytes (box_in (drop (box_size * i) work'))
-      written_alike = same_bytes ∙ (bytes_at ∙ ap box_bytes (sym piece_alike))
+      pub piece_written : (length piece ≡ box_size) × (piece ≡ box_bytes (box_in piece))
+      piece_written = (
+        length-take-le size (drop (box_size * i) pieces) (omega (arith, length-drop (box_size * i) pieces)) ∙ e,
+        ap (λ (k : ℕ). take k (drop (box_size * i) pieces)) e ∙ (bytes_at ∙ ap box_bytes (sym piece_read)),
+      )

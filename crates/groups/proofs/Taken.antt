@@ -1,12 +1,12 @@
--- What taking an allow from all pieces leaves at the front of the work buffer. Assumes nothing.
-use mathlib.Core.Path.{◌≡◌, ap, sym, ◌∙◌}
+-- What taking an allow from all pieces leaves at the front. Assumes nothing.
+use mathlib.Core.Path.{◌≡◌, refl, ap, sym, ◌∙◌}
 use mathlib.Core.List.{List, [], ◌∷◌, ◌++◌, append_assoc}
 use Prim.Native.Nat.{ℕ, ◌+◌, ◌-◌, ◌*◌, ◌<◌, ◌≤◌}
 use native.Mathlib.Omega.{arith}
-use lib.ListN.{length, take, drop, length-append}
-use lib.Seq.{sets-eq, take_at, drop_at, drop-append-add, drop-drop, length-take-le}
+use lib.ListN.{length, take, drop, length-append, take-append-drop}
+use lib.Seq.{take_at, drop_at, length-take-le}
 use Rattle.lists.specs.Lists.{Each}
-use Rattle.lists.proofs.Lists.{each_append, each-drop, each_imp}
+use Rattle.lists.proofs.Lists.{each_append, each-drop, each_imp, sets-parts}
 use Rattle.policy.specs.Fields.{widths, highest, box_size}
 use Rattle.policy.specs.Ranges.{Region}
 use Rattle.policy.specs.Rules.{Proper}
@@ -17,9 +17,8 @@ use Rattle.policy.proofs.Moves.{proper_whole}
 use Rattle.policy.proofs.Proper.{proper_piece}
 use Rattle.wire.specs.Records.{box_bytes, boxes_bytes, boxes_in, Fits}
 use Rattle.wire.proofs.Records.{boxes_bytes-length, boxes_in-length, boxes_back}
-use Rattle.wire.specs.Steps.{copied_down}
-use Rattle.groups.specs.Steps.{capacity, Stored, Stands, Untouched, Taken}
-use Rattle.groups.proofs.Stores.{take-store, drop-store, store_fits}
+use Rattle.groups.specs.Steps.{capacity, half_size, Stored, Stands, Untouched, Taken}
+use Rattle.groups.proofs.Stores.{drop-store, store_fits}
 use Rattle.groups.proofs.Pieces.{proper_all, bytes_before}
 use Rattle.wire.proofs.Items.{bytes-append}
 
@@ -32,71 +31,77 @@ cut_each-proper (d ∷ ds) a h k =
     (each_imp (Piece d) Proper (cut d a) (λ b q. proper_piece highest d b h.0 q) (cut_inside d a (proper_whole highest d h.0) (proper_whole highest a k)))
     (cut_each-proper ds a h.1 k)
 
-module _ {half : ℕ} {work : List ℕ} {n : ℕ} {a : Region} {first : ℕ} {work₁ : List ℕ} {m : ℕ} (st : Stands n work) (ok : Proper a)
-    (room : half + half ≤ length work) (half-fits : box_size * capacity ≤ half) (few : n ≤ capacity) (u : Untouched n work a first)
-    (s : Stored half work first (cut_each (drop first (boxes_in n work)) a) work₁ m) where
-  later_proper : Each Proper (cut_each (drop first (boxes_in n work)) a)
-  later_proper = cut_each-proper (drop first (boxes_in n work)) a (each-drop Proper first (boxes_in n work) st.each) ok
+module _ {pieces : List ℕ} {n : ℕ} {a : Region} {first : ℕ} {out out' : List ℕ} {m : ℕ} (st : Stands n pieces) (ok : Proper a)
+    (room : half_size ≤ length out) (wide : half_size ≤ length pieces) (few : n ≤ capacity) (u : Untouched n pieces a first)
+    (s : Stored out first (cut_each (drop first (boxes_in n pieces)) a) out' m) where
+  abbrev later : List Region
+  later = cut_each (drop first (boxes_in n pieces)) a
 
-  later_fits : Each (Fits widths) (cut_each (drop first (boxes_in n work)) a)
-  later_fits = proper_all (cut_each (drop first (boxes_in n work)) a) later_proper
+  abbrev all : List Region
+  all = cut_each (boxes_in n pieces) a
 
-  counted : m ≡ length (cut_each (boxes_in n work) a)
+  later_fits : Each (Fits widths) later
+  later_fits = proper_all later (cut_each-proper (drop first (boxes_in n pieces)) a (each-drop Proper first (boxes_in n pieces) st.each) ok)
+
+  counted : m ≡ length all
   counted =
-      let l : length (take first (boxes_in n work)) ≡ first = length-take-le first (boxes_in n work) (rw boxes_in-length u.upto) in
-      s.count ∙ sym (ap length u.left ∙ (length-append (take first (boxes_in n work)) (cut_each (drop first (boxes_in n work)) a) ∙ omega arith))
+      let l : length (take first (boxes_in n pieces)) ≡ first = length-take-le first (boxes_in n pieces) (rw boxes_in-length u.upto) in
+      s.count ∙ sym (ap length u.left ∙ (length-append (take first (boxes_in n pieces)) later ∙ omega arith))
 
-  behind : drop (half + half) work₁ ≡ drop (half + half) work
-  behind = ap (drop (half + half)) s.bytes ∙ drop-store half (half + half) work first (cut_each (drop first (boxes_in n work)) a) (omega arith) later_fits
+  behind : drop half_size out' ≡ drop half_size out
+  behind = ap (drop half_size) s.bytes ∙ drop-store out first later later_fits
 
-  -- More than a half holds: they are not copied down.
-  pub taken_over : capacity < m → Taken half work n a work₁ m
-  taken_over h = record { count = counted; pieces = λ k. absurd (omega arith); bytes = λ k. absurd (omega arith); beyond = behind }
+  -- More than a half holds: they are not copied back.
+  pub taken_over : capacity < m → Taken n a pieces out pieces out' m
+  taken_over h = record { count = counted; boxes = λ k. absurd (omega arith); bytes = λ k. absurd (omega arith); beyond = behind }
 
   module _ (h : m ≤ capacity) where
-    later-length : length (boxes_bytes (cut_each (drop first (boxes_in n work)) a)) ≡ box_size * m - box_size * first
-    later-length = boxes_bytes-length (cut_each (drop first (boxes_in n work)) a) later_fits ∙ omega (arith, s.count)
+    abbrev from : ℕ
+    from = box_size * first
 
-    -- The second half has their bytes, behind those of `first` others.
-    stored : take (box_size * m - box_size * first) (drop (half + box_size * first) work₁) ≡ boxes_bytes (cut_each (drop first (boxes_in n work)) a)
+    abbrev size : ℕ
+    size = box_size * m - from
+
+    later-length : length (boxes_bytes later) ≡ size
+    later-length = boxes_bytes-length later later_fits ∙ omega (arith, s.count)
+
+    -- Their bytes are stored behind those of `first` others.
+    stored : take size (drop from out') ≡ boxes_bytes later
     stored =
-        let later : List Region = cut_each (drop first (boxes_in n work)) a in
-        let at : ℕ = half + box_size * first in
-        let l : length (boxes_bytes later) ≡ box_size * m - box_size * first = later-length in
-        let e : work₁ ≡ take at work ++ (boxes_bytes later ++ drop (at + length (boxes_bytes later)) work) =
-        s.bytes ∙ (store_fits half later work first later_fits (omega (arith, s.count)) ∙ (sets-eq (boxes_bytes later) work at (omega (arith, s.count)) ∙ append_assoc (take at work) (boxes_bytes later) (drop (at + length (boxes_bytes later)) work))) in
-        let d : drop at work₁ ≡ boxes_bytes later ++ drop (at + length (boxes_bytes later)) work =
-        ap (drop at) e ∙ drop_at (take at work) (boxes_bytes later ++ drop (at + length (boxes_bytes later)) work) at (length-take-le at work (omega arith)) in
-        rw d (take_at (boxes_bytes later) (drop (at + length (boxes_bytes later)) work) (box_size * m - box_size * first) l)
+        let rest : List ℕ = drop (from + length (boxes_bytes later)) out in
+        let e : out' ≡ take from out ++ (boxes_bytes later ++ rest) =
+        s.bytes ∙ (store_fits later out first later_fits (omega (arith, s.count)) ∙ sets-parts out from (boxes_bytes later) (omega (arith, later-length, s.count))) in
+        rw (e, drop_at (take from out) (boxes_bytes later ++ rest) from (length-take-le from out (omega (arith, s.count))))
+        (take_at (boxes_bytes later) rest size later-length)
 
-    -- Copied down, they stand behind those that stayed.
-    module _ {work₂ : List ℕ} (c : work₂ ≡ copied_down half (box_size * first) (box_size * m) work₁) where
-      whole_length : length (boxes_bytes (cut_each (boxes_in n work) a)) ≡ box_size * m
-      whole_length =
-          boxes_bytes-length (cut_each (boxes_in n work) a) (proper_all (cut_each (boxes_in n work) a) (cut_each-proper (boxes_in n work) a st.each ok))
-          ∙ ap (λ (k : ℕ). box_size * k) (sym counted)
+    -- Copied back, they stand behind those that stayed.
+    module _ {copy : List ℕ} (c : copy ≡ take size (drop from out')) where
+      abbrev whole : List ℕ
+      whole = take from pieces ++ (copy ++ drop size (drop from pieces))
 
-      lies : work₂ ≡ boxes_bytes (cut_each (boxes_in n work) a) ++ drop (box_size * m) work₁
-      unfolding copied_down
+      all_fits : Each (Fits widths) all
+      all_fits = proper_all all (cut_each-proper (boxes_in n pieces) a st.each ok)
+
+      all-length : length (boxes_bytes all) ≡ box_size * m
+      all-length = boxes_bytes-length all all_fits ∙ ap (λ (k : ℕ). box_size * k) (sym counted)
+
+      lies : whole ≡ boxes_bytes all ++ drop size (drop from pieces)
       lies =
-          let later : List Region = cut_each (drop first (boxes_in n work)) a in
-          let front : take (box_size * first) work₁ ≡ boxes_bytes (take first (boxes_in n work)) =
-          ap (take (box_size * first)) s.bytes ∙ (take-store half (box_size * first) work first later (omega (arith, u.upto)) ∙ bytes_before st (omega arith) first u.upto) in
-          c ∙ (rw (front, stored) (sym (append_assoc (boxes_bytes (take first (boxes_in n work))) (boxes_bytes later) (drop (box_size * m) work₁))
-          ∙ ap (λ (l : List ℕ). l ++ drop (box_size * m) work₁) (sym (ap boxes_bytes u.left ∙ bytes-append box_bytes (take first (boxes_in n work)) later))))
+          rw (c, stored, bytes_before st (omega arith) first u.upto)
+          (sym (append_assoc (boxes_bytes (take first (boxes_in n pieces))) (boxes_bytes later) (drop size (drop from pieces)))
+          ∙ ap (λ (l : List ℕ). l ++ drop size (drop from pieces)) (sym (ap boxes_bytes u.left ∙ bytes-append box_bytes (take first (boxes_in n pieces)) later)))
 
-      pub taken : Taken half work n a work₂ m
-      taken =
-          let all : List Region = cut_each (boxes_in n work) a in
-          let e : half + half ≡ length (boxes_bytes all) + (half + half - box_size * m) = omega (arith, whole_length) in
-          let f : box_size * m + (half + half - box_size * m) ≡ half + half = omega arith in
-          record {
-            count = counted;
-            pieces = λ _. ap (λ (k : ℕ). boxes_in k work₂) counted ∙ rw lies (boxes_back all (drop (box_size * m) work₁) (proper_all all (cut_each-proper (boxes_in n work) a st.each ok)));
-            bytes = λ _. rw lies (take_at (boxes_bytes all) (drop (box_size * m) work₁) (box_size * m) whole_length);
-            beyond =
-                ap (drop (half + half)) lies
-                ∙ (ap (λ (k : ℕ). drop k (boxes_bytes all ++ drop (box_size * m) work₁)) e
-                ∙ (drop-append-add (boxes_bytes all) (drop (box_size * m) work₁) (half + half - box_size * m)
-                ∙ (drop-drop (half + half - box_size * m) (box_size * m) work₁ ∙ (ap (λ (k : ℕ). drop k work₁) f ∙ behind))));
-          }
+      pub taken : Taken n a pieces out whole out' m
+      taken = record {
+        count = counted;
+        boxes = λ _. ap (λ (k : ℕ). boxes_in k whole) counted ∙ rw lies (boxes_back all (drop size (drop from pieces)) all_fits);
+        bytes = λ _. rw lies (take_at (boxes_bytes all) (drop size (drop from pieces)) (box_size * m) all-length);
+        beyond = behind;
+      }
+
+    -- Where none is stored behind those that stayed, nothing has to be copied.
+    pub taken_none : m ≤ first → Taken n a pieces out pieces out' m
+    taken_none q =
+        let e : size ≡ 0 = omega arith in
+        let same : take from pieces ++ (take size (drop from out') ++ drop size (drop from pieces)) ≡ pieces = rw e (take-append-drop from pieces) in
+        rw same at (taken refl)

@@ -10,7 +10,7 @@ use lib.Seq.{drop-cons}
 use borrow.Author.Tests.{lt-ltb, le-ltb}
 use Rattle.lists.specs.Lists.{every}
 use Rattle.lists.proofs.Lists.{every_at}
-use Rattle.policy.specs.Fields.{record_size, limits, work_size}
+use Rattle.policy.specs.Fields.{record_size, limits}
 use Rattle.policy.specs.Ranges.{Region}
 use Rattle.policy.specs.Rules.{Rule, rule, Proper, sound, is_allow, allows_in}
 use Rattle.policy.specs.Cut.{cut_each, group}
@@ -18,7 +18,7 @@ use Rattle.policy.specs.Move.{over}
 use Rattle.policy.proofs.Moves.{rule_proper}
 use Rattle.wire.specs.Records.{boxes_bytes, boxes_in, rule_in, rules_in}
 use Rattle.wire.proofs.Records.{boxes_in-length, rules_in-length, rule_in_place}
-use Rattle.groups.specs.Steps.{allows_at, worked_of, WorkedFrom, capacity, Stands, Taken}
+use Rattle.groups.specs.Steps.{allows_at, worked_of, AllTaken, capacity, half_size, Stands, Taken}
 use Rattle.std.specs.Prelude.{Ok, Err}
 use Rattle.policy.specs.declared.Refusal.TheVariants.{TooManyPieces}
 use Rattle.groups.proofs.Taken.{cut_each-proper}
@@ -44,33 +44,33 @@ module _ (rules : List ℕ) (i j : ℕ) (t : j < i) {r : Rule} (e : r ≡ rule_i
   left_allow h = rw (left, h)
 
 -- At rule j: the pieces that stand and the allows left to take come to what the start and all allows come to, number 6 included.
-pub record Working (half : ℕ) (start : List Region) (work₀ rules : List ℕ) (i : ℕ) (work : List ℕ) (n j : ℕ) : Type 0 where
-  pub upto : j ≤ i
+pub record Working (start : List Region) (rules : List ℕ) (i : ℕ) (pieces₀ out₀ pieces out : List ℕ) (n j : ℕ) : Type 0 where
   pub few : n ≤ capacity
-  pub wide : length work ≡ length work₀
-  pub stands : Stands n work
-  pub beyond : drop (half + half) work ≡ drop (half + half) work₀
-  pub boxes : group (boxes_in n work) (allows_in (drop j (rules_in i rules))) ≡ group start (allows_at i rules)
-  pub number : over capacity (boxes_in n work) (allows_in (drop j (rules_in i rules))) ≡ over capacity start (allows_at i rules)
+  pub wide : length pieces ≡ length pieces₀
+  pub out_wide : length out ≡ length out₀
+  pub stands : Stands n pieces
+  pub beyond : drop half_size out ≡ drop half_size out₀
+  pub boxes : group (boxes_in n pieces) (allows_in (drop j (rules_in i rules))) ≡ group start (allows_at i rules)
+  pub number : over capacity (boxes_in n pieces) (allows_in (drop j (rules_in i rules))) ≡ over capacity start (allows_at i rules)
 
-pub working_first : (half : ℕ) (rules : List ℕ) (i : ℕ) {work : List ℕ} {n : ℕ} → n ≤ capacity → Stands n work → Working half (boxes_in n work) work rules i work n 0
-working_first half rules i few st = record {
-  upto = omega arith;
+pub working_first : (rules : List ℕ) (i : ℕ) {pieces out : List ℕ} {n : ℕ} → n ≤ capacity → Stands n pieces → Working (boxes_in n pieces) rules i pieces out pieces out n 0
+working_first rules i few st = record {
   few = few;
   wide = refl;
+  out_wide = refl;
   stands = st;
   beyond = refl;
   boxes = refl;
   number = refl;
 }
 
-module _ {half : ℕ} {start : List Region} {work₀ rules : List ℕ} {i : ℕ} {work : List ℕ} {n j : ℕ} (g : Working half start work₀ rules i work n j) where
+module _ {start : List Region} {rules : List ℕ} {i : ℕ} {pieces₀ out₀ pieces out : List ℕ} {n j : ℕ} (g : Working start rules i pieces₀ out₀ pieces out n j) where
   module _ (t : j < i) {r : Rule} (e : r ≡ rule_in (drop (record_size * j) rules)) where
-    pub working_deny : is_allow r ≡ false → Working half start work₀ rules i work n (j + 1)
+    pub working_deny : is_allow r ≡ false → Working start rules i pieces₀ out₀ pieces out n (j + 1)
     working_deny h = record {
-      upto = omega arith;
       few = g.few;
       wide = g.wide;
+      out_wide = g.out_wide;
       stands = g.stands;
       beyond = g.beyond;
       boxes = rw (left_deny rules i j t e h) at g.boxes;
@@ -78,35 +78,31 @@ module _ {half : ℕ} {start : List Region} {work₀ rules : List ℕ} {i : ℕ}
     }
 
     -- The rule is an allow: every piece was cut by it.
-    module _ (h : is_allow r ≡ true) {work' : List ℕ} {m : ℕ} (k : Taken half work n r.region work' m) where
+    module _ (h : is_allow r ≡ true) {pieces' out' : List ℕ} {m : ℕ} (k : Taken n r.region pieces out pieces' out' m) where
       -- More than number 6 allows are left.
-      module _ (q : capacity < m) where
-        answered_over : Err TooManyPieces ≡ worked_of limits start (allows_at i rules)
-        unfolding over worked_of
-        answered_over =
-            let o : over capacity (boxes_in n work) (allows_in (drop j (rules_in i rules))) ≡ true = rw (left_allow rules i j t e h, lt-ltb capacity (length (cut_each (boxes_in n work) r.region)) (omega (arith, k.count))) in
-            rw (← g.number, o)
+      pub working_over : capacity < m → AllTaken start rules i out₀ pieces' out' (Err TooManyPieces)
+      unfolding over worked_of
+      working_over q =
+          let o : over capacity (boxes_in n pieces) (allows_in (drop j (rules_in i rules))) ≡ true = rw (left_allow rules i j t e h, lt-ltb capacity (length (cut_each (boxes_in n pieces) r.region)) (omega (arith, k.count))) in
+          record { answer = rw (← g.number, o); few = tt; boxes = tt; beyond = k.beyond ∙ g.beyond }
 
-        pub working_over : half + half ≡ work_size → WorkedFrom start rules i work₀ (Err TooManyPieces) work'
-        working_over x = record { answer = answered_over; boxes = tt; beyond = rw x at (k.beyond ∙ g.beyond) }
-
-      pub working_next : m ≤ capacity → Proper r.region → length work' ≡ length work → Working half start work₀ rules i work' m (j + 1)
+      pub working_next : m ≤ capacity → Proper r.region → length pieces' ≡ length pieces → length out' ≡ length out → Working start rules i pieces₀ out₀ pieces' out' m (j + 1)
       unfolding group over
-      working_next q p l =
-          let b = k.pieces q in
+      working_next q p l l' =
+          let b = k.boxes q in
           record {
-            upto = omega arith;
             few = q;
             wide = l ∙ g.wide;
+            out_wide = l' ∙ g.out_wide;
             stands = record {
-              each = rw b (cut_each-proper (boxes_in n work) r.region g.stands.each p);
+              each = rw b (cut_each-proper (boxes_in n pieces) r.region g.stands.each p);
               written = k.bytes q ∙ ap boxes_bytes (sym b);
             };
             beyond = k.beyond ∙ g.beyond;
             boxes = rw b (rw (left_allow rules i j t e h) at g.boxes);
             number =
                 rw b
-                (rw (left_allow rules i j t e h, le-ltb capacity (length (cut_each (boxes_in n work) r.region)) (omega (arith, k.count))) at g.number);
+                (rw (left_allow rules i j t e h, le-ltb capacity (length (cut_each (boxes_in n pieces) r.region)) (omega (arith, k.count))) at g.number);
           }
 
   -- Every rule before the deny rule has been looked at.
@@ -114,7 +110,7 @@ module _ {half : ℕ} {start : List Region} {work₀ rules : List ℕ} {i : ℕ}
     none_left : drop j (rules_in i rules) ≡ []
     none_left = let l : length (rules_in i rules) ≤ j = rw rules_in-length h in drop_of_length-le (rules_in i rules) l
 
-    group_stands : boxes_in n work ≡ group start (allows_at i rules)
+    group_stands : boxes_in n pieces ≡ group start (allows_at i rules)
     unfolding group allows_in
     group_stands = rw none_left at g.boxes
 
@@ -124,9 +120,10 @@ module _ {half : ℕ} {start : List Region} {work₀ rules : List ℕ} {i : ℕ}
         let o : over capacity start (allows_at i rules) ≡ false = sym g.number ∙ rw none_left in
         rw (o, ← group_stands, boxes_in-length)
 
-    pub working_done : half + half ≡ work_size → WorkedFrom start rules i work₀ (Ok n) work
-    working_done e = record {
+    pub working_done : AllTaken start rules i out₀ pieces out (Ok n)
+    working_done = record {
       answer = answered;
+      few = g.few;
       boxes = g.stands.written ∙ ap boxes_bytes group_stands;
-      beyond = rw e at g.beyond;
+      beyond = g.beyond;
     }

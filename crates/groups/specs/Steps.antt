@@ -2,8 +2,9 @@
 -- to it, as they lie there. Assumes nothing.
 use Rattle.std.specs.Prelude.{◌≡◌, List, [], ◌∷◌, ◌++◌, true, cond, ℕ, ◌*◌, ◌+◌, ◌<◌, ◌≤◌, length, take, drop, set, ltb, Result, Ok, Err, IfOk}
 use Rattle.policy.specs.Fields.{fields, widths, size_of, box_size, record_size, Limits, limits, work_size}
-use Rattle.policy.specs.Ranges.{range, Region}
-use Rattle.policy.specs.Values.{region_of}
+use Rattle.policy.specs.Ranges.{Region}
+use Rattle.policy.specs.Values.{range_of, region_of}
+use Rattle.policy.specs.declared.Range.{Range as RangeValue}
 use Rattle.policy.specs.Steps.{range_at, part_below, part_above}
 use Rattle.policy.specs.Cut.{shared, group, cut_each}
 use Rattle.policy.specs.Move.{over}
@@ -11,7 +12,6 @@ use Rattle.policy.specs.declared.Refusal.{Refusal}
 use Rattle.policy.specs.declared.Refusal.TheVariants.{TooManyPieces}
 use Rattle.policy.specs.Rules.{sound, allows_in, Proper}
 use Rattle.wire.specs.Records.{ranges_bytes, boxes_bytes, rule_in, rules_in, box_bytes, boxes_in}
-use Rattle.groups.specs.declared.Ends.{Ends}
 use Rattle.groups.specs.declared.Underway.{Underway}
 use Rattle.std.proofs.lemmas.List.Edits.{sets}
 use Rattle.lists.specs.Lists.{Each, every}
@@ -40,71 +40,83 @@ pub record WorkedFrom (start : List Region) (rules : List ℕ) (i : ℕ) (work :
 abbrev pub WorkedOut : (Region → List Region) → List ℕ → ℕ → List ℕ → Result ℕ Refusal → List ℕ → Type 0
 WorkedOut start rules i work r work' = WorkedFrom (start_at start i rules) rules i work r work'
 
--- The rule at place i and those before it are there and sound, and the work buffer has both halves.
-abbrev pub Workable : List ℕ → ℕ → List ℕ → Type 0
-Workable rules i work =
-    (record_size * (i + 1) ≤ length rules) × (work_size ≤ length work) × (every sound (rules_in (i + 1) rules) ≡ true)
-
--- How many boxes a half has room for, and as many pieces as one allow can leave of them.
+-- How many boxes a half of the work buffer has room for, the bytes that they take, and as many pieces as one allow can leave of them.
 abbrev pub capacity : ℕ
 capacity = limits.pieces
+
+abbrev pub half_size : ℕ
+half_size = box_size * capacity
 
 abbrev pub stored_most : ℕ
 stored_most = 2 * fields * capacity
 
--- A box stored behind m others, in the half that begins at `half`; past the half's capacity nothing is written.
-unfoldable pub store_one : ℕ → List ℕ → ℕ → Region → List ℕ
-store_one half work m b = cond (ltb m capacity) (sets work (half + box_size * m) (box_bytes b)) work
+-- The rule at place i and those before it are there and sound, and the work buffer has both halves, or a half room for the pieces.
+abbrev pub Workable : List ℕ → ℕ → List ℕ → Type 0
+Workable rules i work =
+    (record_size * (i + 1) ≤ length rules) × (work_size ≤ length work) × (every sound (rules_in (i + 1) rules) ≡ true)
+
+abbrev pub Fillable : List ℕ → ℕ → List ℕ → Type 0
+Fillable rules i pieces =
+    (record_size * (i + 1) ≤ length rules) × (half_size ≤ length pieces) × (every sound (rules_in (i + 1) rules) ≡ true)
+
+-- A box stored behind m others; past the capacity nothing is written.
+unfoldable pub store_one : List ℕ → ℕ → Region → List ℕ
+store_one out m b = cond (ltb m capacity) (sets out (box_size * m) (box_bytes b)) out
 
 -- Boxes stored one after another.
-unfoldable pub store : ℕ → List ℕ → ℕ → List Region → List ℕ
-store half work m [] = work
-store half work m (b ∷ bs) = store half (store_one half work m b) (m + 1) bs
+unfoldable pub store : List ℕ → ℕ → List Region → List ℕ
+store out m [] = out
+store out m (b ∷ bs) = store (store_one out m b) (m + 1) bs
 
 -- What storing leaves: the boxes counted on, those past the capacity too.
-pub record Stored (half : ℕ) (work : List ℕ) (m : ℕ) (bs : List Region) (work' : List ℕ) (r : ℕ) : Type 0 where
+pub record Stored (out : List ℕ) (m : ℕ) (bs : List Region) (out' : List ℕ) (r : ℕ) : Type 0 where
   pub count : r ≡ m + length bs
-  pub bytes : work' ≡ store half work m bs
+  pub bytes : out' ≡ store out m bs
 
--- The bytes of b's fields after field k stand where the box that begins at `at` has them.
-abbrev pub LaterStand : ℕ → Region → ℕ → List ℕ → Type 0
-LaterStand k b at work =
-    drop (size_of (take (k + 1) widths)) (take box_size (drop at work)) ≡ ranges_bytes (drop (k + 1) widths) (drop (k + 1) b)
+-- The bytes of b's fields from field k on stand where a piece has them.
+abbrev pub LaterStand : ℕ → Region → List ℕ → Type 0
+LaterStand k b piece = drop (size_of (take k widths)) piece ≡ ranges_bytes (drop k widths) (drop k b)
 
--- A cut that has come to field k, of the box that begins at `at`, before the half: low and high are the rest's there.
-pub record CutAt (half : ℕ) (work : List ℕ) (at : ℕ) (done : Underway) (k : ℕ) (ends : Ends) : Type 0 where
-  pub room : half + box_size * capacity ≤ length work
-  pub few : done.stored < stored_most
-  pub before : at + box_size ≤ half
+-- A cut of a piece that has come to field k, where `own` is the rest's range.
+pub record CutAt (piece : List ℕ) (k : ℕ) (own : RangeValue) (done : Underway) (out : List ℕ) : Type 0 where
+  pub room : half_size ≤ length out
+  pub few : done.stored + 1 < stored_most
+  pub long : length piece ≡ box_size
   pub inside : k < fields
-  pub own : range ends.low ends.high ≡ range_at (region_of done.rest) k
-  pub later : LaterStand k (region_of done.rest) at work
+  pub range : range_of own ≡ range_at (region_of done.rest) k
+  pub later : LaterStand (k + 1) (region_of done.rest) piece
 
 -- What the cut of one field leaves: its two parts stored, and the rest with the shared range there.
-pub record FieldCut (half : ℕ) (work : List ℕ) (done : Underway) (k : ℕ) (ends : Ends) (work' : List ℕ) (r : Underway) : Type 0 where
-  pub parts : Stored half work done.stored (part_below (region_of done.rest) k ends.from ++ part_above (region_of done.rest) k ends.to) work' r.stored
-  pub narrowed : region_of r.rest ≡ set (region_of done.rest) k (shared (range_at (region_of done.rest) k) (range ends.from ends.to))
+pub record FieldCut (k : ℕ) (allow : RangeValue) (done : Underway) (out out' : List ℕ) (r : Underway) : Type 0 where
+  pub parts : Stored out done.stored (part_below (region_of done.rest) k allow.low ++ part_above (region_of done.rest) k allow.high) out' r.stored
+  pub narrowed : region_of r.rest ≡ set (region_of done.rest) k (shared (range_at (region_of done.rest) k) (range_of allow))
 
 -- n pieces stand at the front: each is a box that number 4 lets pass, and its bytes are those of the box.
-pub record Stands (n : ℕ) (work : List ℕ) : Type 0 where
-  pub each : Each Proper (boxes_in n work)
-  pub written : take (box_size * n) work ≡ boxes_bytes (boxes_in n work)
+pub record Stands (n : ℕ) (pieces : List ℕ) : Type 0 where
+  pub each : Each Proper (boxes_in n pieces)
+  pub written : take (box_size * n) pieces ≡ boxes_bytes (boxes_in n pieces)
 
 -- A start put at the front: its boxes are the n pieces that stand there, no more than a half has room for.
-pub record Started (start : List Region) (work : List ℕ) (n : ℕ) (work' : List ℕ) : Type 0 where
+pub record Started (start : List Region) (n : ℕ) (pieces : List ℕ) : Type 0 where
   pub few : n ≤ capacity
-  pub stands : Stands n work'
-  pub pieces : boxes_in n work' ≡ start
-  pub beyond : drop work_size work' ≡ drop work_size work
+  pub stands : Stands n pieces
+  pub boxes : boxes_in n pieces ≡ start
 
 -- The first i of n pieces stay as they are when a is taken from all of them.
-pub record Untouched (n : ℕ) (work : List ℕ) (a : Region) (i : ℕ) : Type 0 where
+pub record Untouched (n : ℕ) (pieces : List ℕ) (a : Region) (i : ℕ) : Type 0 where
   pub upto : i ≤ n
-  pub left : cut_each (boxes_in n work) a ≡ take i (boxes_in n work) ++ cut_each (drop i (boxes_in n work)) a
+  pub left : cut_each (boxes_in n pieces) a ≡ take i (boxes_in n pieces) ++ cut_each (drop i (boxes_in n pieces)) a
 
 -- What taking an allow from all pieces leaves: how many there are, and unless they are too many, they stand at the front.
-pub record Taken (half : ℕ) (work : List ℕ) (n : ℕ) (a : Region) (work' : List ℕ) (r : ℕ) : Type 0 where
-  pub count : r ≡ length (cut_each (boxes_in n work) a)
-  pub pieces : r ≤ capacity → boxes_in r work' ≡ cut_each (boxes_in n work) a
-  pub bytes : r ≤ capacity → take (box_size * r) work' ≡ boxes_bytes (cut_each (boxes_in n work) a)
-  pub beyond : drop (half + half) work' ≡ drop (half + half) work
+pub record Taken (n : ℕ) (a : Region) (pieces out pieces' out' : List ℕ) (r : ℕ) : Type 0 where
+  pub count : r ≡ length (cut_each (boxes_in n pieces) a)
+  pub boxes : r ≤ capacity → boxes_in r pieces' ≡ cut_each (boxes_in n pieces) a
+  pub bytes : r ≤ capacity → take (box_size * r) pieces' ≡ boxes_bytes (cut_each (boxes_in n pieces) a)
+  pub beyond : drop half_size out' ≡ drop half_size out
+
+-- What taking the allows before place i from a start leaves.
+pub record AllTaken (start : List Region) (rules : List ℕ) (i : ℕ) (out pieces' out' : List ℕ) (r : Result ℕ Refusal) : Type 0 where
+  pub answer : r ≡ worked_of limits start (allows_at i rules)
+  pub few : IfOk r (λ n. n ≤ capacity)
+  pub boxes : GroupStands (group start (allows_at i rules)) pieces' r
+  pub beyond : drop half_size out' ≡ drop half_size out

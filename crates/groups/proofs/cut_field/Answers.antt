@@ -1,25 +1,35 @@
 -- `cut_field` meets its contract: the low part, the high part behind it, and the rest narrowed. Assumes nothing.
+use native.Mathlib.Omega.{arith}
 use mathlib.Core.Path.{◌≡◌, ap, ◌∙◌}
-use Rattle.policy.specs.Ranges.{Range, range, Region}
-use Rattle.policy.specs.Values.{region_of}
+use Rattle.policy.specs.Ranges.{Range, Region}
+use Rattle.policy.specs.Values.{range_of, region_of}
+use Rattle.policy.specs.Steps.{range_at, part_below, part_above}
 use Rattle.policy.specs.Cut.{shared}
 use lib.ListN.{set}
+use Rattle.groups.specs.Steps.{Stored}
 use Rattle.groups.proofs.Stores.{stored_then}
-use Rattle.groups.proofs.Cutting.{below_few, cut_at_kept}
+use Rattle.groups.proofs.Cutting.{below_none, below_stored, above_none, above_stored}
 use Rattle.groups.proofs.cut_field.Goals as goal
-
-pub store_low-below-requires : goal.store_low-below-requires
-store_low-below-requires c = c.requires.0
-
-pub store_high-stored-requires : goal.store_high-stored-requires
-store_high-stored-requires c =
-    cut_at_kept c.requires.0 c.store_low-below.ensures (below_few (region_of c.args.done.rest) c.args.k c.args.ends.from c.store_low-below.ensures) c.requires.1
+use Rattle.groups.proofs.cut_field.Goals.{then-own-allow, else-own-allow, then-allow-own, else-allow-own}
 
 pub returns : goal.returns
 returns c =
     let b : Region = region_of c.args.done.rest in
-    let e : range c.args.ends.low c.args.ends.high ≡ _ = c.requires.0.own in
+    let k = c.args.k in
+    let own : range_of c.args.own ≡ range_at b k = c.requires.range in
+    let low = ap (λ (r : Range). r.low) own in
+    let high = ap (λ (r : Range). r.high) own in
+    let below : Stored c.args.out.now c.args.done.stored (part_below b k c.args.allow.low) c.if-own-allow.out c.if-own-allow.stored =
+    elim c.if-own-allow.branch [
+      | then-own-allow w ↦ rw (w.out-is, w.stored-is) (below_stored b k c.args.allow.low (omega arith) w.low_part.ensures w.store_part-stored.ensures)
+      | else-own-allow w ↦ rw (w.out-is, w.stored-is) (below_none b k c.args.allow.low (omega arith))
+    ] in
+    let above : Stored c.if-own-allow.out c.if-own-allow.stored (part_above b k c.args.allow.high) c.if-allow-own.out c.if-allow-own.stored =
+    elim c.if-allow-own.branch [
+      | then-allow-own w ↦ rw (w.out-is, w.stored-is) (above_stored b k c.args.allow.high (omega arith) w.high_part.ensures w.store_part-stored-then-allow-own.ensures)
+      | else-allow-own w ↦ rw (w.out-is, w.stored-is) (above_none b k c.args.allow.high (omega arith))
+    ] in
     record {
-      parts = stored_then c.store_low-below.ensures c.store_high-stored.ensures;
-      narrowed = c.narrow-rest.ensures ∙ rw (c.larger.ensures, c.smaller.ensures) (ap (λ (r : Range). set b c.args.k (shared r (range c.args.ends.from c.args.ends.to))) e);
+      parts = stored_then below above;
+      narrowed = c.narrow-rest.ensures ∙ rw (c.max-low.ensures, c.min-high.ensures) (ap (λ (r : Range). set b k (shared r (range_of c.args.allow))) own);
     }

@@ -6,4 +6,4 @@ use Rattle.groups.proofs.put_start.Goals as goal
 pub returns : goal.returns
 returns c =
     let box = c.box_at-start in
-    started_alone c.args.rules.now c.args.i (region_of box.result) c.requires.2 box.ensures c.requires.1 c.put_box.ensures
+    started_alone c.args.rules.now c.args.i (region_of box.result) c.args.pieces.now c.requires.2 box.ensures c.requires.1 c.put_box.ensures
