@@ -24,8 +24,11 @@ use Rattle.lists.specs.Lists.{Each}
 use Rattle.policy.proofs.Edits.{slots_length}
 use Rattle.draft.specs.Steps.{AllReady, Drafting, DraftedGroups, draft_size}
 use Rattle.draft.specs.declared.Drafted.{Drafted}
-use Rattle.draft.specs.declared.Drafted.TheVariants as D
-use Rattle.draft.proofs.Drawn.{drawn_over, drawn_light, drawn_boxes, drawn_end, drawn_content}
+use Rattle.std.specs.Prelude.{Ok, Err}
+use Rattle.policy.specs.Refusals.{Answered}
+use Rattle.policy.specs.declared.Refusal.{Refusal}
+use Rattle.policy.specs.declared.Refusal.TheVariants.{TooManyPieces}
+use Rattle.draft.proofs.Drawn.{drawn_over, drawn_light, drawn_boxes, drawn_content}
 use Rattle.promises.proofs.Good.{moved_good}
 
 module _ {s : List ℕ} {l : PairLayout} (a : PairAccepted s l) where
@@ -33,7 +36,7 @@ module _ {s : List ℕ} {l : PairLayout} (a : PairAccepted s l) where
   o = order_at l.order s
 
   -- what a draft of them is
-  abbrev pub AllDrafted : List ℕ → List ℕ → Drafted → List ℕ → List ℕ → Type 0
+  abbrev pub AllDrafted : List ℕ → List ℕ → Answered Drafted → List ℕ → List ℕ → Type 0
   AllDrafted draft w r draft' w' = DraftedGroups alone (drop count_size s) 0 l.order.gate draft 0 0 w r draft' w'
 
   pub draft_ready : (draft w : List ℕ) → draft_size ≤ length draft → work_size ≤ length w → AllReady s l.order.gate draft w
@@ -49,21 +52,21 @@ module _ {s : List ℕ} {l : PairLayout} (a : PairAccepted s l) where
 
   module _ {draft w draft' w' : List ℕ} where
     -- all of A, drafted, is the slots of a move
-    drafting : {r : Drafted} → AllDrafted draft w r draft' w' → Drafting limits (slots_of o) draft 0 0 r draft'
+    drafting : {r : Answered Drafted} → AllDrafted draft w r draft' w' → Drafting limits (slots_of o) draft 0 0 r draft'
     unfolding each_in allows_in
     drafting x = x.drafting
 
-    pub draft_over : AllDrafted draft w D.TooManyPieces draft' w' → any_over limits.pieces (slots_of o) ≡ true
+    pub draft_over : {f : Refusal} → AllDrafted draft w (Err f) draft' w' → (f ≡ TooManyPieces) × (any_over limits.pieces (slots_of o) ≡ true)
     draft_over x = drawn_over (drafting x)
 
-    module _ {g b end : ℕ} (x : AllDrafted draft w (D.Groups g b end) draft' w') where
+    module _ {d : Drafted} (x : AllDrafted draft w (Ok d) draft' w') where
       pub draft_light : any_over limits.pieces (slots_of o) ≡ false
       draft_light = drawn_light (drafting x)
 
-      pub draft_boxes : b ≡ length (together (moved o).groups)
+      pub draft_boxes : d.boxes ≡ length (together (moved o).groups)
       draft_boxes = let e = drawn_boxes (drafting x) in omega arith
 
-      module _ (h : b + l.order.own ≤ limits.total) where
+      module _ (h : d.boxes + l.order.own ≤ limits.total) where
         -- a move of the two lists is accepted
         pub draft_moves : move_refusal limits o ≡ 0
         unfolding move_refusal room work
@@ -75,15 +78,12 @@ module _ {s : List ℕ} {l : PairLayout} (a : PairAccepted s l) where
           proper : Each ProperGroup (moved o).groups
           proper = (moved_good limits o draft_moves).groups.boxes
 
-          few : b ≤ limits.total
+          few : d.boxes ≤ limits.total
           few = omega (arith, h)
 
           short : length (slots_of o) ≤ limits.gate
           short = omega (arith, slots_length (start_of o) [] o.gate, denies_most o.gate, rules_in-length l.order.gate (drop count_size s), a.laid.lists.gate_limit)
 
-          pub draft_end : end ≤ length draft
-          draft_end = drawn_end (drafting x) few proper short roomy
-
           -- the draft is section C of the moved pair
-          pub draft_content : take end draft' ≡ groups_bytes (moved o).groups
+          pub draft_content : take d.end draft' ≡ groups_bytes (moved o).groups
           draft_content = drawn_content (drafting x) few proper short roomy

@@ -1,7 +1,7 @@
 // Check: a pair sheet read, its groups drafted anew, and the draft compared with section C.
 #![tactic(auto)]
 
-ghost use Rattle.std.specs.Prelude.{◌≡◌, true, ◌≤◌, length, drop};
+ghost use Rattle.std.specs.Prelude.{◌≡◌, ◌≤◌, length, drop};
 ghost use Rattle.policy.specs.Fields.{work_size};
 ghost use Rattle.wire.specs.Buffers.{zeroed};
 ghost use Rattle.draft.specs.Steps.{draft_size};
@@ -11,71 +11,38 @@ ghost use Rattle.checking.specs.Steps.{SameGroups, CheckRead};
 use draft::{DRAFT_BYTES, Drafted};
 use groups::WORK_BYTES;
 use policy::{Answer, Refusal};
-use sheet::{PairLayout, PairParts};
+use sheet::PairLayout;
 
-// Whether two slices hold the same bytes: four at a time, then what is left.
-fn same_bytes(a: &[u8], b: &[u8]) -> bool
-    ensures { (result ≡ true → a.now ≡ b.now) × (a.now ≡ b.now → result ≡ true) }
+// Whether the draft, as far as it goes, is the sheet's groups: as many boxes, and the same bytes.
+fn is_same(sheet: &[u8], layout: PairLayout, draft: &[u8], drafted: Drafted) -> bool
+    requires { (layout.from ≤ length sheet.now) × (drafted.boxes ≡ layout.boxes → drafted.end ≤ length draft.now) }
+    ensures { SameGroups sheet.now layout draft.now drafted result }
 {
-    if a.len() != b.len() {
-        return false;
-    }
-    let mut i: usize = 0;
-    let mut left = a.len();
-    while 4 <= left {
-        if wire::four_at(a, i) != wire::four_at(b, i) {
-            return false;
-        }
-        i += 4;
-        left -= 4;
-    }
-    a[i..] == b[i..]
-}
-
-// Whether the draft, of so many boxes and ending there, is the sheet's groups: as many boxes, and the same bytes.
-fn is_same(sheet: &[u8], layout: PairLayout, draft: &[u8], boxes: usize, end: usize) -> bool
-    requires { (layout.from ≤ length sheet.now) × (boxes ≡ layout.boxes → end ≤ length draft.now) }
-    ensures { SameGroups sheet.now layout draft.now boxes end result }
-{
-    let from = layout.from;
-    if boxes == layout.boxes {
-        return same_bytes(&draft[..end], &sheet[from..]);
-    }
-    false
+    drafted.boxes == layout.boxes && draft[..drafted.end] == sheet[layout.from..]
 }
 
 // The pair sheet read, its groups drafted anew, and the draft compared with section C.
-fn compare(sheet: &[u8], draft: &mut [u8], work: &mut [u8]) -> PairParts
+fn compare(sheet: &[u8], draft: &mut [u8], work: &mut [u8]) -> Result<PairLayout, Refusal>
     requires { (draft_size ≤ length draft.old) × (work_size ≤ length work.old) }
     ensures { CheckRead sheet.now result × (drop work_size work.new ≡ drop work_size work.old) }
 {
-    match sheet::read_pair(sheet) {
-        PairParts::Refused(f) => PairParts::Refused(f),
-        PairParts::Parts(layout) => match draft::draft_all(sheet, layout.order.gate, draft, work) {
-            Drafted::TooManyPieces => PairParts::Refused(Refusal::TooManyPieces),
-            Drafted::Groups {
-                groups: _,
-                boxes,
-                end,
-            } => {
-                if !is_same(sheet, layout, draft, boxes, end) {
-                    return PairParts::Refused(Refusal::GroupsDiffer);
-                }
-                PairParts::Parts(layout)
-            }
-        },
+    let layout = sheet::read_pair(sheet)?;
+    let drafted = draft::draft_all(sheet, layout.order.gate, draft, work)?;
+    if !is_same(sheet, layout, draft, drafted) {
+        return Err(Refusal::GroupsDiffer);
     }
+    Ok(layout)
 }
 
 // The layout of a pair sheet that passes check, or the refusal; the work buffer is zero at its front.
-pub fn checked(sheet: &[u8], work: &mut [u8]) -> PairParts
+pub fn checked(sheet: &[u8], work: &mut [u8]) -> Result<PairLayout, Refusal>
     requires { work_size ≤ length work.old }
     ensures { CheckRead sheet.now result × (work.new ≡ zeroed 0 work_size work.old) }
 {
     let mut draft = [0u8; DRAFT_BYTES];
-    let parts = compare(sheet, &mut draft, work);
+    let layout = compare(sheet, &mut draft, work);
     wire::zero(work, 0, WORK_BYTES);
-    parts
+    layout
 }
 
 // Check: a length of 0 says that the sheet's section C is what its A gives.
@@ -83,10 +50,8 @@ pub fn check(sheet: &[u8], work: &mut [u8]) -> Answer
     ensures { Checks sheet.now work.old result work.new }
 {
     if work.len() < WORK_BYTES {
-        return Answer::Refused(Refusal::BufferShort);
+        return Err(Refusal::BufferShort);
     }
-    match checked(sheet, work) {
-        PairParts::Refused(f) => Answer::Refused(f),
-        PairParts::Parts(_) => Answer::Length(0),
-    }
+    checked(sheet, work)?;
+    Ok(0)
 }

@@ -2,7 +2,7 @@
 use Rattle.std.specs.Prelude.{Ok, Err}
 use mathlib.Core.Path.{◌≡◌, refl, ap, sym, ◌∙◌}
 use mathlib.Core.List.{List, [], ◌∷◌, ◌++◌}
-use mathlib.Core.Bool.{Bool, true}
+use mathlib.Core.Bool.{false}
 use Prim.Native.Nat.{ℕ, zero, suc, ◌+◌, ◌*◌, ◌-◌, ◌<◌, ◌≤◌}
 use native.Mathlib.Omega.{arith}
 use lib.ListN.{length, take, drop, length-append, length-drop}
@@ -13,7 +13,7 @@ use Rattle.lists.proofs.Parts.{copied_sets}
 use Rattle.policy.specs.Fields.{box_size, count_size, record_size, action_size, limits, work_size}
 use Rattle.policy.specs.Ranges.{Region}
 use Rattle.policy.specs.Rules.{Rule, rule, full}
-use Rattle.policy.specs.Refusals.{accepted}
+use Rattle.policy.specs.Refusals.{Answered, accepted}
 use Rattle.policy.specs.Move.{together, denials, Pair, gate_list}
 use Rattle.policy.specs.declared.Refusal.{Refusal}
 use Rattle.wire.specs.Numbers.{number_bytes, Byte}
@@ -21,19 +21,21 @@ use Rattle.wire.specs.Records.{box_in, record_bytes, records_bytes, each_bytes, 
 use Rattle.wire.specs.Buffers.{zeroed, filled, written, length_of}
 use Rattle.wire.proofs.Numbers.{number_bytes-length, bytes_drop}
 use Rattle.wire.proofs.Records.{box_written_back, boxes_in-length, rules_in-length, records_written_back}
-use Rattle.wire.proofs.Buffers.{filled_is, filled_front}
+use Rattle.wire.proofs.Buffers.{filled_is, filled_front, refusal_leaves}
 use Rattle.sheet.specs.Pairs.{group_size, group_boxes}
-use Rattle.sheet.specs.Steps.{groups_from, pair_at, pair_heard, PairLaid, box_count}
+use Rattle.sheet.specs.Steps.{groups_from, pair_at, PairLaid, box_count}
 use Rattle.sheet.specs.declared.PairLayout.{PairLayout}
-use Rattle.sheet.specs.declared.PairParts.TheVariants as P
 use Rattle.wire.proofs.Lists.{list_bytes-length}
 use Rattle.sheet.proofs.Orders.{readable_fits}
-use Rattle.promises.specs.Calls.{check_of, Call, cell_bytes, gate_bytes, gate_list_size}
+use Rattle.promises.specs.Calls.{both_lent, work_after, Lists, cell_bytes, gate_bytes, gate_list_size}
 use Rattle.checking.specs.Steps.{CheckRead}
-use Rattle.listing.specs.Steps.{box_records, group_records, ListPut}
+use Rattle.listing.specs.Steps.{box_records, group_records, ListPut, CheckedWithRoom}
 use Rattle.policy.proofs.Places.{denials-length}
 use Rattle.promises.proofs.Good.{gate_list_good}
-use Rattle.promises.proofs.Calls.{call_done, refuses}
+use Rattle.promises.proofs.Calls.{both_there}
+use Rattle.std.proofs.lemmas.Result.{IfOk-weaker}
+use Rattle.policy.proofs.Answers.{gives_refusal, given_refusal, given_value}
+use Rattle.policy.specs.declared.Refusal.TheVariants.{BufferShort}
 use Rattle.wire.specs.Lists.{count_in, list_bytes}
 use Rattle.wire.proofs.Items.{bytes-append}
 
@@ -62,9 +64,6 @@ pub record Leads (first : List ℕ) (at : ℕ) (all list : List ℕ) (to : ℕ) 
   pub long : length list ≡ length first
   pub onward : sets list to rest ≡ sets first at all
 
-pub leads_first : (first : List ℕ) (at : ℕ) (all : List ℕ) → Leads first at all first at all
-leads_first first at all = record { long = refl; onward = refl }
-
 leads_next : {first all list list' : List ℕ} {at to : ℕ} (x rest : List ℕ) → Leads first at all list to (x ++ rest) → list' ≡ sets list to x
     → Leads first at all list' (to + length x) rest
 leads_next {list = list} {to = to} x rest g e = record {
@@ -77,17 +76,17 @@ box_more : (k : ℕ) (s : List ℕ) → box_records (suc k) s ≡ record_bytes (
 unfolding each_in denials each_bytes
 box_more k s = refl
 
-pub denials_next : {first all list : List ℕ} {at to left : ℕ} (sheet : List ℕ) (start : ℕ) → Each Byte sheet → 0 < left → start + box_size ≤ length sheet
-    → Leads first at all list to (box_records left (drop start sheet)) → {b : Region} {list' : List ℕ} → b ≡ box_in (drop start sheet) → list' ≡ sets list to (record_bytes (rule b 0))
-    → Leads first at all list' (to + record_size) (box_records (left - 1) (drop (start + box_size) sheet))
-denials_next {left = left} sheet start bytes more h g {b} {list'} e f =
+pub denials_next : {first all list : List ℕ} {at to n i : ℕ} (sheet : List ℕ) (start : ℕ) → Each Byte sheet → i < n → start + box_size ≤ length sheet
+    → Leads first at all list to (box_records (n - i) (drop start sheet)) → {b : Region} {list' : List ℕ} → b ≡ box_in (drop start sheet) → list' ≡ sets list to (record_bytes (rule b 0))
+    → {start' to' : ℕ} → start' ≡ start + box_size → to' ≡ to + record_size → Leads first at all list' to' (box_records (n - (i + 1)) (drop start' sheet))
+denials_next {n = n} {i = i} sheet start bytes more h g {b} {list'} e f q u =
     let t : List ℕ = drop start sheet in
-    let later : List ℕ = box_records (left - 1) (drop (start + box_size) sheet) in
-    let k : left ≡ suc (left - 1) = omega arith in
-    let v : box_records left t ≡ record_bytes (rule b 0) ++ later =
-    ap (λ (i : ℕ). box_records i t) k ∙ (box_more (left - 1) t ∙ rw (e, drop-drop box_size start sheet) refl) in
+    let later : List ℕ = box_records (n - (i + 1)) (drop (start + box_size) sheet) in
+    let k : n - i ≡ suc (n - (i + 1)) = omega arith in
+    let v : box_records (n - i) t ≡ record_bytes (rule b 0) ++ later =
+    ap (λ (j : ℕ). box_records j t) k ∙ (box_more (n - (i + 1)) t ∙ rw (e, drop-drop box_size start sheet) refl) in
     let l : length (record_bytes (rule b 0)) ≡ record_size = rw e (denial_length t (rw length-drop (omega arith)) (bytes_drop start sheet bytes)) in
-    rw (← l) (leads_next (record_bytes (rule b 0)) later (rw v at g) f)
+    rw (q, u, ← l) (leads_next (record_bytes (rule b 0)) later (rw v at g) f)
 
 -- one group more
 group_boxes_lem : (k : ℕ) (s : List ℕ) → box_count (suc k) s ≡ count_in s + box_count k (drop (group_size (count_in s)) s)
@@ -110,14 +109,14 @@ group_records_length (suc k) s h b =
     let i = group_records_length k (drop (group_size n) s) (rw length-drop (omega arith)) (bytes_drop (group_size n) s b) in
     ap length (group_records_lem k s) ∙ rw (length-append, l, i, c) (omega arith)
 
-module _ (sheet : List ℕ) (start : ℕ) {n left : ℕ} (e : n ≡ count_in (drop start sheet)) (more : 0 < left) where
+module _ (sheet : List ℕ) (start : ℕ) {n groups i : ℕ} (e : n ≡ count_in (drop start sheet)) (more : i < groups) where
   abbrev here : List ℕ
   here = drop (start + count_size) sheet
 
   abbrev later : List ℕ
   later = drop (start + count_size + box_size * n) sheet
 
-  left_is : left ≡ suc (left - 1)
+  left_is : groups - i ≡ suc (groups - (i + 1))
   left_is = omega arith
 
   behind : drop (group_size (count_in (drop start sheet))) (drop start sheet) ≡ later
@@ -125,17 +124,17 @@ module _ (sheet : List ℕ) (start : ℕ) {n left : ℕ} (e : n ≡ count_in (dr
       let d : start + group_size (count_in (drop start sheet)) ≡ start + count_size + box_size * n = rw (← e) (omega arith) in
       rw (drop-drop (group_size (count_in (drop start sheet))) start sheet, d) refl
 
-  pub group_count_lem : box_count left (drop start sheet) ≡ n + box_count (left - 1) later
-  group_count_lem = ap (λ (i : ℕ). box_count i (drop start sheet)) left_is ∙ (group_boxes_lem (left - 1) (drop start sheet) ∙ rw (behind, ← e) refl)
+  pub group_count_lem : box_count (groups - i) (drop start sheet) ≡ n + box_count (groups - (i + 1)) later
+  group_count_lem = ap (λ (k : ℕ). box_count k (drop start sheet)) left_is ∙ (group_boxes_lem (groups - (i + 1)) (drop start sheet) ∙ rw (behind, ← e) refl)
 
   pub groups_next : {first all list : List ℕ} {at to : ℕ} → Each Byte sheet → start + count_size + box_size * n ≤ length sheet
-      → Leads first at all list to (group_records left (drop start sheet)) → {list' : List ℕ} → list' ≡ sets list to (box_records n here)
-      → Leads first at all list' (to + record_size * n) (group_records (left - 1) later)
+      → Leads first at all list to (group_records (groups - i) (drop start sheet)) → {list' : List ℕ} → list' ≡ sets list to (box_records n here)
+      → Leads first at all list' (to + record_size * n) (group_records (groups - (i + 1)) later)
   groups_next bytes h g f =
-      let v : group_records left (drop start sheet) ≡ box_records n here ++ group_records (left - 1) later =
-      ap (λ (i : ℕ). group_records i (drop start sheet)) left_is ∙ (group_records_lem (left - 1) (drop start sheet) ∙ rw (behind, drop-drop count_size start sheet, ← e) refl) in
+      let v : group_records (groups - i) (drop start sheet) ≡ box_records n here ++ group_records (groups - (i + 1)) later =
+      ap (λ (k : ℕ). group_records k (drop start sheet)) left_is ∙ (group_records_lem (groups - (i + 1)) (drop start sheet) ∙ rw (behind, drop-drop count_size start sheet, ← e) refl) in
       let l : length (box_records n here) ≡ record_size * n = box_records_length n here (rw length-drop (omega arith)) (bytes_drop (start + count_size) sheet bytes) in
-      rw (← l) (leads_next (box_records n here) (group_records (left - 1) later) (rw v at g) f)
+      rw (← l) (leads_next (box_records n here) (group_records (groups - (i + 1)) later) (rw v at g) f)
 
 -- nothing left
 pub denials_all : {first all list : List ℕ} {at to : ℕ} (left : ℕ) (s : List ℕ) → left ≤ 0 → Leads first at all list to (box_records left s) → list ≡ sets first at all
@@ -182,7 +181,7 @@ module _ {s : List ℕ} {l : PairLayout} (p : PairLaid s l) (bytes : Each Byte s
       rw (c, bytes-append record_bytes (denials bs) pair.order.own, own_records) refl
 
   -- the groups lie in the sheet, and have all its boxes
-  pub cell_groups : (l.from + (count_size * l.groups + box_size * box_count l.groups (drop l.from s)) ≤ length s) × (box_count l.groups (drop l.from s) ≡ l.boxes)
+  cell_groups : (l.from + (count_size * l.groups + box_size * box_count l.groups (drop l.from s)) ≤ length s) × (box_count l.groups (drop l.from s) ≡ l.boxes)
   cell_groups = (omega (arith, p.groups_end, p.whole, p.boxes_are), sym p.boxes_are)
 
   pub cell_put : (list c₁ c₂ c₃ last : List ℕ) (start end most : ℕ) → start ≡ count_size + record_size * l.boxes → end ≡ start + length own → end ≤ most → most ≤ length list
@@ -210,15 +209,31 @@ gate_put p list c₁ last r h e f g =
     let w : sets list 0 (head ++ record_bytes (rule full 1)) ≡ last = sets-append list 0 head (record_bytes (rule full 1)) ∙ rw (z, ← f, ← e) (sym g) in
     record { answer = sym l; result = sym w ∙ (ap (λ (x : List ℕ). sets list 0 (head ++ x)) (sym (append-none (record_bytes (rule full 1)))) ∙ filled_front gate_list_size list (gate_bytes p) l h) }
 
--- A list call once its buffers are long enough: what the check came to, and the list.
-module _ (bytes : Pair → List ℕ) (size : ℕ) (lent : Bool) (s out w : List ℕ) (h : lent ≡ true) {w' : List ℕ} (e : w' ≡ zeroed 0 work_size w) where
-  pub list_refused : {f : Refusal} → CheckRead s (P.Err f) → Call bytes size lent (check_of limits s) out w (Err f) out w'
-  unfolding pair_heard
-  list_refused {f} x = call_done bytes size lent (check_of limits s) out w h (refuses bytes size (check_of limits s) out w w f (sym x.says) refl) e
+-- A list call up to its writing.
+module _ (s out : List ℕ) (room : ℕ) (w : List ℕ) where
+  pub room_missing : both_lent room out w ≡ false → CheckedWithRoom s out room w (Err BufferShort) w
+  unfolding work_after
+  room_missing e = record { read = gives_refusal BufferShort (rw e refl); work = rw e refl }
 
-  pub list_written : {l : PairLayout} {r : ℕ} {out' : List ℕ} → CheckRead s (P.Parts l) → ListPut (bytes (pair_at l s)) size out r out'
-      → Call bytes size lent (check_of limits s) out w (Ok r) out' w'
-  unfolding pair_heard length_of written
-  list_written x y =
-      call_done bytes size lent (check_of limits s) out w h
-      (record { answer = ap accepted y.answer ∙ ap (length_of bytes) x.says; result = y.result ∙ ap (written bytes size out) x.says; beyond = refl }) e
+  pub room_checked : {r : Answered PairLayout} {w' : List ℕ} → room ≤ length out → work_size ≤ length w → CheckRead s r → w' ≡ zeroed 0 work_size w → CheckedWithRoom s out room w r w'
+  unfolding work_after
+  room_checked {r} h k x e =
+      let lent = both_there room work_size out w h k in
+      record {
+        read = record { says = rw lent x.says; laid = IfOk-weaker r (PairLaid s) _ (λ l p. (p, h)) x.laid };
+        work = rw lent e;
+      }
+
+-- What the call comes to then: the refusal, or the list that is written.
+module _ (bytes : Pair → List ℕ) {s out w w' : List ℕ} {size : ℕ} where
+  pub list_refused : {f : Refusal} → CheckedWithRoom s out size w (Err f) w' → Lists bytes size s out w (Err f) out w'
+  unfolding length_of
+  list_refused {f} x =
+      let e = given_refusal x.read f refl in
+      record { answer = rw e refl; result = refusal_leaves bytes size out e; work = x.work }
+
+  pub list_written : {l : PairLayout} {r : ℕ} {out' : List ℕ} → CheckedWithRoom s out size w (Ok l) w' → ListPut (bytes (pair_at l s)) size out r out' → Lists bytes size s out w (Ok r) out' w'
+  unfolding length_of written
+  list_written {l} x y =
+      let e = given_value x.read l refl in
+      record { answer = rw e (ap accepted y.answer); result = rw e y.result; work = x.work }

@@ -8,13 +8,13 @@ ghost use Rattle.policy.specs.Rules.{rule, full};
 ghost use Rattle.policy.specs.Values.{rule_of};
 ghost use Rattle.sheet.specs.Steps.{pair_at, PairLaid, box_count};
 ghost use Rattle.promises.specs.Calls.{Lists, cell_bytes, cell_list_size, gate_bytes, gate_list_size};
-ghost use Rattle.listing.specs.Steps.{box_records, group_records, ListPut};
+ghost use Rattle.listing.specs.Steps.{box_records, group_records, ListPut, CheckedWithRoom};
 
 use groups::WORK_BYTES;
 use policy::{
     Answer, BOX_BYTES, Box, COUNT_BYTES, FIELDS, HIGHEST, RECORD_BYTES, Refusal, Rule, TOTAL_MOST,
 };
-use sheet::{PairLayout, PairParts};
+use sheet::PairLayout;
 
 // What the cell list and the gate list are lent at least.
 pub const CELL_LIST_BYTES: usize = COUNT_BYTES + RECORD_BYTES * TOTAL_MOST;
@@ -26,15 +26,9 @@ fn deny_boxes(out: &mut [u8], at: usize, sheet: &[u8], from: usize, n: usize)
     requires { (from + box_size * n ≤ length sheet.now) × (at + record_size * n ≤ length out.old) }
     ensures { out.new ≡ sets out.old at (box_records n (drop from sheet.now)) }
 {
-    let mut start = from;
-    let mut to = at;
-    let mut left = n;
-    while 0 < left {
-        let bounds = wire::box_at(sheet, start);
-        wire::put_rule(out, to, Rule { bounds, action: 0 });
-        start += BOX_BYTES;
-        to += RECORD_BYTES;
-        left -= 1;
+    for i in 0..n {
+        let bounds = wire::box_at(sheet, from + BOX_BYTES * i);
+        wire::put_rule(out, at + RECORD_BYTES * i, Rule { bounds, action: 0 });
     }
 }
 
@@ -45,14 +39,12 @@ fn deny_groups(out: &mut [u8], at: usize, sheet: &[u8], from: usize, groups: usi
 {
     let mut start = from;
     let mut to = at;
-    let mut more = groups;
-    while 0 < more {
+    for _ in 0..groups {
         let n = wire::count_at(sheet, start);
         start += COUNT_BYTES;
         deny_boxes(out, to, sheet, start, n);
         start += BOX_BYTES * n;
         to += RECORD_BYTES * n;
-        more -= 1;
     }
 }
 
@@ -73,50 +65,46 @@ fn put_cell_list(out: &mut [u8], sheet: &[u8], layout: PairLayout) -> usize
     end
 }
 
+// The layout of a pair sheet that passes check, where the list has room for so many bytes and the work buffer is long enough.
+fn checked_with_room(
+    sheet: &[u8],
+    out: &[u8],
+    room: usize,
+    work: &mut [u8],
+) -> Result<PairLayout, Refusal>
+    ensures { CheckedWithRoom sheet.now out.now room work.old result work.new }
+{
+    if out.len() < room || work.len() < WORK_BYTES {
+        return Err(Refusal::BufferShort);
+    }
+    checking::checked(sheet, work)
+}
+
 // Cell list: check, then every group's boxes as deny rules and the own rules; the answer is the list's length.
 pub fn cell_list(sheet: &[u8], out: &mut [u8], work: &mut [u8]) -> Answer
     ensures { Lists cell_bytes cell_list_size sheet.now out.old work.old result out.new work.new }
 {
-    if out.len() < CELL_LIST_BYTES {
-        return Answer::Refused(Refusal::BufferShort);
-    }
-    if work.len() < WORK_BYTES {
-        return Answer::Refused(Refusal::BufferShort);
-    }
-    match checking::checked(sheet, work) {
-        PairParts::Refused(f) => Answer::Refused(f),
-        PairParts::Parts(layout) => Answer::Length(put_cell_list(out, sheet, layout)),
-    }
+    let layout = checked_with_room(sheet, out, CELL_LIST_BYTES, work)?;
+    Ok(put_cell_list(out, sheet, layout))
 }
 
 // The rule that allows every packet.
 fn allow_all() -> Rule
     ensures { rule_of result ≡ rule full 1 }
 {
-    let low = [0u32; FIELDS];
-    let high = HIGHEST;
-    Rule {
-        bounds: Box { low, high },
-        action: 1,
-    }
+    let bounds = Box {
+        low: [0; FIELDS],
+        high: HIGHEST,
+    };
+    Rule { bounds, action: 1 }
 }
 
 // Gate list: check, then one full allow rule, which takes all that is lent at least; the answer is the list's length.
 pub fn gate_list(sheet: &[u8], out: &mut [u8], work: &mut [u8]) -> Answer
     ensures { Lists gate_bytes gate_list_size sheet.now out.old work.old result out.new work.new }
 {
-    if out.len() < GATE_LIST_BYTES {
-        return Answer::Refused(Refusal::BufferShort);
-    }
-    if work.len() < WORK_BYTES {
-        return Answer::Refused(Refusal::BufferShort);
-    }
-    match checking::checked(sheet, work) {
-        PairParts::Refused(f) => Answer::Refused(f),
-        PairParts::Parts(_) => {
-            wire::put_count(out, 0, 1);
-            wire::put_rule(out, COUNT_BYTES, allow_all());
-            Answer::Length(GATE_LIST_BYTES)
-        }
-    }
+    checked_with_room(sheet, out, GATE_LIST_BYTES, work)?;
+    wire::put_count(out, 0, 1);
+    wire::put_rule(out, COUNT_BYTES, allow_all());
+    Ok(GATE_LIST_BYTES)
 }

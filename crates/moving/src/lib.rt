@@ -10,10 +10,10 @@ ghost use Rattle.draft.specs.Steps.{draft_size, sheet_of};
 ghost use Rattle.promises.specs.Calls.{Moves};
 ghost use Rattle.moving.specs.Steps.{PairPut, Planned};
 
-use draft::{DRAFT_BYTES, Drafted};
+use draft::DRAFT_BYTES;
 use groups::WORK_BYTES;
 use policy::{Answer, COUNT_BYTES, Refusal};
-use sheet::{OrderParts, PAIR_BYTES};
+use sheet::PAIR_BYTES;
 
 // The pair sheet: the order sheet, the count of groups, the groups, and zeros behind them; its length.
 fn put_pair(sheet: &mut [u8], order: &[u8], groups: usize, draft: &[u8]) -> usize
@@ -34,18 +34,12 @@ fn plan_with(order: &[u8], sheet: &mut [u8], draft: &mut [u8], work: &mut [u8]) 
     requires { (pair_size ≤ length sheet.old) × (draft_size ≤ length draft.old) × (work_size ≤ length work.old) }
     ensures { Planned order.now sheet.old work.old result sheet.new work.new }
 {
-    match sheet::read_order(order) {
-        OrderParts::Refused(f) => Answer::Refused(f),
-        OrderParts::Parts(layout) => match draft::draft_all(order, layout.gate, draft, work) {
-            Drafted::TooManyPieces => Answer::Refused(Refusal::TooManyPieces),
-            Drafted::Groups { groups, boxes, end } => {
-                if !policy::has_room(boxes, layout.own) {
-                    return Answer::Refused(Refusal::TooManyBoxes);
-                }
-                Answer::Length(put_pair(sheet, order, groups, &draft[..end]))
-            }
-        },
+    let layout = sheet::read_order(order)?;
+    let drafted = draft::draft_all(order, layout.gate, draft, work)?;
+    if !policy::has_room(drafted.boxes, layout.own) {
+        return Err(Refusal::TooManyBoxes);
     }
+    Ok(put_pair(sheet, order, drafted.groups, &draft[..drafted.end]))
 }
 
 // The draft is local: what is lent is written only once the move is accepted.
@@ -61,11 +55,8 @@ fn plan(order: &[u8], sheet: &mut [u8], work: &mut [u8]) -> Answer
 pub fn move_order(order: &[u8], sheet: &mut [u8], work: &mut [u8]) -> Answer
     ensures { Moves order.now sheet.old work.old result sheet.new work.new }
 {
-    if sheet.len() < PAIR_BYTES {
-        return Answer::Refused(Refusal::BufferShort);
-    }
-    if work.len() < WORK_BYTES {
-        return Answer::Refused(Refusal::BufferShort);
+    if sheet.len() < PAIR_BYTES || work.len() < WORK_BYTES {
+        return Err(Refusal::BufferShort);
     }
     let answer = plan(order, sheet, work);
     wire::zero(work, 0, WORK_BYTES);

@@ -6,5 +6,5 @@ use Rattle.checking.proofs.checked.Goals as goal
 
 pub returns : goal.returns
 returns c =
-    let x = c.compare-parts.ensures in
+    let x = c.compare-layout.ensures in
     (x.0, c.zero.ensures ∙ zeroed_same work_size _ _ x.1)
