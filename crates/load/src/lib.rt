@@ -3,12 +3,13 @@
 
 ghost use Rattle.std.specs.Prelude.{◌≡◌, ◌+◌, ◌<◌, ◌≤◌, [], ◌∷◌, length, IfOk};
 ghost use Rattle.policy.specs.Fields.{limits};
+ghost use Rattle.policy.specs.Refusals.{heard};
 ghost use Rattle.policy.specs.Values.{packet_of};
 ghost use Rattle.sheet.specs.Steps.{pair_at};
 ghost use Rattle.origins.specs.Steps.{TraceSmall};
 ghost use Rattle.load.specs.Load.{load_of, no_load, plus, common, gain_of, hits_between};
 ghost use Rattle.load.specs.Packets.{packet_size, packet_in, whole_packets, packets_in, packets_most, added_to};
-ghost use Rattle.load.specs.Steps.{load_value, gain_value, trace_load, Bounded, added_heard};
+ghost use Rattle.load.specs.Steps.{load_value, gain_value, trace_load, Bounded};
 
 use origins::{Trace, trace_packet};
 use policy::{BOX_BYTES, FIELDS, Packet, Refusal, WIDTH};
@@ -180,7 +181,7 @@ fn add_packets(t: Load, block: &[u8], sheet: TabledSheet<'_>) -> Load
 // last one is broken.
 pub fn add_block(t: Load, block: &[u8], sheet: TabledSheet<'_>) -> Result<Load, Refusal>
     requires { Bounded (load_value t) }
-    ensures sum { added_heard result ≡ added_to (pair_at sheet.entry.sheet.layout sheet.entry.sheet.bytes.now) (load_value t) block.now }
+    ensures sum { heard load_value result ≡ added_to (pair_at sheet.entry.sheet.layout sheet.entry.sheet.bytes.now) (load_value t) block.now }
     ensures bounded { IfOk result (λ u. Bounded (load_value u)) }
 {
     let whole = block.len() / PACKET_BYTES;

@@ -1,4 +1,5 @@
 -- The call: its two tests, check's refusals, and a trace told; and two outcomes of one call are equal. Assumes nothing.
+use Rattle.std.specs.Prelude.{Ok, Err}
 use mathlib.Core.Path.{◌≡◌, refl, sym, ◌∙◌}
 use mathlib.Core.List.{List}
 use mathlib.Core.Bool.{true, false}
@@ -7,53 +8,43 @@ use native.Mathlib.Omega.{arith}
 use lib.ListN.{length}
 use Rattle.policy.specs.Fields.{limits, work_size}
 use Rattle.policy.specs.Ranges.{Packet}
-use Rattle.policy.specs.Refusals.{refusal_base, accepted, refused, number_of}
+use Rattle.policy.specs.Refusals.{Answer, refusal_base, accepted, refused, number_of}
 use Rattle.policy.specs.Move.{Pair}
-use Rattle.policy.specs.declared.Answer.{Answer}
-use Rattle.policy.specs.declared.Answer.TheVariants.{Refused}
 use Rattle.policy.specs.declared.Refusal.{Refusal}
 use Rattle.policy.specs.declared.Refusal.TheVariants.{BufferShort}
 use Rattle.policy.proofs.Answers.{said_once, test_accepted}
 use Rattle.wire.specs.Buffers.{zeroed, written}
-use Rattle.sheet.specs.Steps.{pair_heard}
 use Rattle.sheet.specs.declared.PairLayout.{PairLayout}
-use Rattle.sheet.specs.declared.PairParts.TheVariants as P
 use Rattle.sheet.proofs.Outcomes.{through}
 use Rattle.promises.specs.Calls.{work_after, both_lent, check_of}
 use Rattle.promises.proofs.Calls.{room_short, work_short, both_there}
 use Rattle.checking.specs.Steps.{CheckRead}
-use Rattle.checking.proofs.Checking.{check_laid}
 use Rattle.filter.specs.Lookup.{lookup_number}
 use Rattle.origins.specs.Origin.{Decision, origin_of, origin_size, origin_call, value_of, Origins}
 use Rattle.origins.specs.Steps.{Checked, Traced, TraceTold}
 use Rattle.origins.specs.declared.Trace.{Trace}
 use Rattle.origins.proofs.Deciding.{decided}
 
--- a sheet whose layout check answers, and one that is refused
-pub passes_check : {s : List ℕ} {l : PairLayout} → CheckRead s (P.Parts l) → Checked s l
-unfolding pair_heard
-passes_check x = record { checks = sym x.says; laid = check_laid x }
-
-pub fails_check : {s : List ℕ} {f : Refusal} → CheckRead s (P.Refused f) → check_of limits s ≡ refused (number_of f)
-unfolding pair_heard
-fails_check x = sym x.says
+-- a sheet whose layout check answers
+pub passes_check : {s : List ℕ} {l : PairLayout} → CheckRead s (Ok l) → Checked s l
+passes_check x = record { checks = sym x.says; laid = x.laid }
 
 module _ (p : Packet) (s ns w : List ℕ) where
-  short : both_lent origin_size ns w ≡ false → Origins p s ns w (Refused BufferShort) ns w
+  short : both_lent origin_size ns w ≡ false → Origins p s ns w (Err BufferShort) ns w
   unfolding origin_call value_of written work_after
   short e = record { answer = rw e refl; numbers = rw e refl; work = rw e refl }
 
-  pub numbers_short : length ns < origin_size → Origins p s ns w (Refused BufferShort) ns w
+  pub numbers_short : length ns < origin_size → Origins p s ns w (Err BufferShort) ns w
   numbers_short h = short (room_short origin_size ns _ h)
 
-  pub work_too_short : origin_size ≤ length ns → length w < work_size → Origins p s ns w (Refused BufferShort) ns w
+  pub work_too_short : origin_size ≤ length ns → length w < work_size → Origins p s ns w (Err BufferShort) ns w
   work_too_short h k = short (work_short origin_size work_size ns w h k)
 
   module _ (h : origin_size ≤ length ns) (k : work_size ≤ length w) {w' : List ℕ} (clear : w' ≡ zeroed 0 work_size w) where
     lent : both_lent origin_size ns w ≡ true
     lent = both_there origin_size work_size ns w h k
 
-    pub origin_refused : {f : Refusal} → check_of limits s ≡ refused (number_of f) → Origins p s ns w (Refused f) ns w'
+    pub origin_refused : {f : Refusal} → check_of limits s ≡ refused (number_of f) → Origins p s ns w (Err f) ns w'
     unfolding origin_call origin_of value_of written work_after
     origin_refused x = record { answer = rw (lent, x) refl; numbers = rw (lent, x) refl; work = rw lent clear }
 

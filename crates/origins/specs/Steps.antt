@@ -4,10 +4,9 @@ use Rattle.lists.specs.Lists.{Each}
 use Rattle.policy.specs.Fields.{limits}
 use Rattle.policy.specs.Ranges.{Region, Packet}
 use Rattle.policy.specs.Rules.{Rule, rule, Proper, is_allow, denies, found, nothing, first}
-use Rattle.policy.specs.Refusals.{Outcome, accepted, refused, said}
+use Rattle.policy.specs.Refusals.{Answer, Outcome, accepted, refused, said}
 use Rattle.policy.specs.Move.{Pair, together, cell_list}
 use Rattle.policy.specs.Origins.{gate_rule, own_rule}
-use Rattle.policy.specs.declared.Answer.{Answer}
 use Rattle.wire.specs.Buffers.{written}
 use Rattle.wire.specs.Records.{each_in}
 use Rattle.sheet.specs.Steps.{pair_at, PairLaid}

@@ -22,7 +22,7 @@ ghost use Rattle.origins.specs.Steps.{Checked, place_in, Denies, front_of, run_b
 use filter::is_inside;
 use groups::WORK_BYTES;
 use policy::{Answer, BOX_BYTES, COUNT_BYTES, Packet, RECORD_BYTES, Refusal, Rule};
-use sheet::{PairLayout, PairParts};
+use sheet::PairLayout;
 
 // The fewest numbers that may be lent.
 pub const ORIGIN_NUMBERS: usize = 3;
@@ -42,10 +42,8 @@ impl<'a> CheckedSheet<'a> {
         ensures checks { MatchResult result (λ sheet. sheet.bytes.now ≡ bytes.now) (λ f. check_of limits bytes.now ≡ refused (number_of f)) }
         ensures cleared { work.new ≡ zeroed 0 work_size work.old }
     {
-        match checking::checked(bytes, work) {
-            PairParts::Refused(f) => Err(f),
-            PairParts::Parts(layout) => Ok(CheckedSheet { bytes, layout }),
-        }
+        let layout = checking::checked(bytes, work)?;
+        Ok(CheckedSheet { bytes, layout })
     }
 
     // How many places the new cell list has.
@@ -286,7 +284,7 @@ fn tell(t: Trace, numbers: &mut [u32]) -> Answer
         } => {
             put_origin(numbers, 0, rule, number);
             let value = 2 * place;
-            Answer::Length(value)
+            Ok(value)
         }
         Trace::Own {
             passed: _,
@@ -296,9 +294,9 @@ fn tell(t: Trace, numbers: &mut [u32]) -> Answer
         } => {
             put_origin(numbers, 1, rule, 0);
             let value = 2 * place + action as usize;
-            Answer::Length(value)
+            Ok(value)
         }
-        Trace::Nowhere => Answer::Refused(Refusal::NotComplete),
+        Trace::Nowhere => Err(Refusal::NotComplete),
     }
 }
 
@@ -307,13 +305,11 @@ pub fn origin(p: Packet, sheet: &[u8], numbers: &mut [u32], work: &mut [u8]) -> 
     ensures { Origins (packet_of p) sheet.now numbers.old work.old result numbers.new work.new }
 {
     if numbers.len() < ORIGIN_NUMBERS {
-        return Answer::Refused(Refusal::BufferShort);
+        return Err(Refusal::BufferShort);
     }
     if work.len() < WORK_BYTES {
-        return Answer::Refused(Refusal::BufferShort);
+        return Err(Refusal::BufferShort);
     }
-    match CheckedSheet::new(sheet, work) {
-        Err(f) => Answer::Refused(f),
-        Ok(checked) => tell(trace_packet(checked, p), numbers),
-    }
+    let checked = CheckedSheet::new(sheet, work)?;
+    tell(trace_packet(checked, p), numbers)
 }

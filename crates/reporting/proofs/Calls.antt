@@ -8,9 +8,7 @@ use native.Mathlib.Omega.{arith}
 use lib.ListN.{length}
 use lib.Seq.{sets}
 use Rattle.policy.specs.Fields.{limits, work_size}
-use Rattle.policy.specs.Refusals.{accepted, refused, number_of}
-use Rattle.policy.specs.declared.Answer.{Answer}
-use Rattle.policy.specs.declared.Answer.TheVariants.{Length, Refused}
+use Rattle.policy.specs.Refusals.{Answer, accepted, refused, number_of, heard}
 use Rattle.policy.specs.declared.Refusal.{Refusal}
 use Rattle.policy.specs.declared.Refusal.TheVariants.{BufferShort, LengthWrong}
 use Rattle.policy.proofs.Answers.{said_once}
@@ -21,7 +19,7 @@ use Rattle.promises.specs.Calls.{work_after, check_of}
 use Rattle.promises.proofs.Calls.{room_short, room_there, work_short, both_there}
 use Rattle.load.specs.Load.{no_load}
 use Rattle.load.specs.Packets.{added_to, hits_in}
-use Rattle.load.specs.Steps.{Bounded, load_value, added_heard}
+use Rattle.load.specs.Steps.{Bounded, load_value}
 use Rattle.load.specs.declared.Load.{Load as LoadValue}
 use Rattle.reporting.specs.Report.{places, are_readings, loaded_of, report_of, totals_size, totals_of, hits_size, all_lent, report_call, Reports}
 use Rattle.reporting.proofs.Hits.{hits-length}
@@ -35,21 +33,21 @@ lengths_of e h = rw (e.0, e.1, e.2) at h
 
 module _ (s packets earlier later ts hs w : List ℕ) where
   -- a buffer that is too short
-  lent_not : all_lent ts hs w ≡ false → Reports s packets earlier later ts hs w (Refused BufferShort) ts hs w
+  lent_not : all_lent ts hs w ≡ false → Reports s packets earlier later ts hs w (Err BufferShort) ts hs w
   unfolding report_call length_of written work_after
   lent_not e = record { answer = rw e refl; totals = rw e refl; hits = rw e refl; work = rw e refl }
 
-  pub totals_short : length ts < totals_size → Reports s packets earlier later ts hs w (Refused BufferShort) ts hs w
+  pub totals_short : length ts < totals_size → Reports s packets earlier later ts hs w (Err BufferShort) ts hs w
   unfolding all_lent
   totals_short h = lent_not (room_short totals_size ts _ h)
 
   module _ (t : totals_size ≤ length ts) where
-    pub hits_short : length hs < hits_size → Reports s packets earlier later ts hs w (Refused BufferShort) ts hs w
+    pub hits_short : length hs < hits_size → Reports s packets earlier later ts hs w (Err BufferShort) ts hs w
     unfolding all_lent
     hits_short h = lent_not (rw (room_there totals_size ts t) (room_short hits_size hs _ h))
 
     module _ (h : hits_size ≤ length hs) where
-      pub work_too_short : length w < work_size → Reports s packets earlier later ts hs w (Refused BufferShort) ts hs w
+      pub work_too_short : length w < work_size → Reports s packets earlier later ts hs w (Err BufferShort) ts hs w
       unfolding all_lent
       work_too_short k = lent_not (rw (room_there totals_size ts t) (work_short hits_size work_size hs w h k))
 
@@ -59,16 +57,16 @@ module _ (s packets earlier later ts hs w : List ℕ) where
         lent = rw (room_there totals_size ts t) (both_there hits_size work_size hs w h k)
 
         -- a refusal of the check, of the readings and of the packets
-        refuses : {f : Refusal} → report_of limits s packets earlier later ≡ refused (number_of f) → Reports s packets earlier later ts hs w (Refused f) ts hs w'
+        refuses : {f : Refusal} → report_of limits s packets earlier later ≡ refused (number_of f) → Reports s packets earlier later ts hs w (Err f) ts hs w'
         unfolding report_call length_of written work_after
         refuses x = record { answer = rw (lent, x) refl; totals = rw (lent, x) refl; hits = rw (lent, x) refl; work = rw lent clear }
 
-        pub check_refuses : {f : Refusal} → check_of limits s ≡ refused (number_of f) → Reports s packets earlier later ts hs w (Refused f) ts hs w'
+        pub check_refuses : {f : Refusal} → check_of limits s ≡ refused (number_of f) → Reports s packets earlier later ts hs w (Err f) ts hs w'
         unfolding report_of
         check_refuses x = refuses (rw x refl)
 
         module _ (q : Pair) (checks : check_of limits s ≡ accepted q) {n : ℕ} (are : n ≡ places q) where
-          pub readings_refuse : {f : Refusal} → f ≡ LengthWrong → are_readings n earlier later ≡ false → Reports s packets earlier later ts hs w (Refused f) ts hs w'
+          pub readings_refuse : {f : Refusal} → f ≡ LengthWrong → are_readings n earlier later ≡ false → Reports s packets earlier later ts hs w (Err f) ts hs w'
           unfolding report_of loaded_of
           readings_refuse e h = refuses (rw (checks, ← are, h, e) refl)
 
@@ -77,13 +75,13 @@ module _ (s packets earlier later ts hs w : List ℕ) where
             unfolding loaded_of
             loaded_is = rw (← are, right) refl
 
-            pub load_refuses : {f : Refusal} → added_heard (Err f) ≡ added_to q no_load packets → Reports s packets earlier later ts hs w (Refused f) ts hs w'
-            unfolding report_of added_heard
+            pub load_refuses : {f : Refusal} → heard load_value (Err f) ≡ added_to q no_load packets → Reports s packets earlier later ts hs w (Err f) ts hs w'
+            unfolding report_of
             load_refuses x = refuses (rw (checks, loaded_is, ← x) refl)
 
-            pub report_told : (t : LoadValue) {ts' hs' : List ℕ} → added_heard (Ok t) ≡ added_to q no_load packets → ts' ≡ sets ts 0 (totals_of (load_value t))
-                → hs' ≡ filled hits_size hs (hits_in n earlier later) → Reports s packets earlier later ts hs w (Length n) ts' hs' w'
-            unfolding report_call report_of length_of written work_after added_heard totals_of
+            pub report_told : (t : LoadValue) {ts' hs' : List ℕ} → heard load_value (Ok t) ≡ added_to q no_load packets → ts' ≡ sets ts 0 (totals_of (load_value t))
+                → hs' ≡ filled hits_size hs (hits_in n earlier later) → Reports s packets earlier later ts hs w (Ok n) ts' hs' w'
+            unfolding report_call report_of length_of written work_after totals_of
             report_told load x totals-put hits-put = record {
               answer = rw (lent, checks, loaded_is, ← x) (ap accepted (are ∙ sym (hits-length (places q) earlier later)));
               totals = rw (lent, checks, loaded_is, ← x) (totals-put ∙ filled_front totals_size ts _ refl t);

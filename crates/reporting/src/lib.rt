@@ -3,12 +3,13 @@
 
 ghost use Rattle.std.specs.Prelude.{◌≡◌, true, false, ◌≤◌, length, get_or, MatchResult};
 ghost use Rattle.std.proofs.lemmas.List.Edits.{sets};
+ghost use Rattle.policy.specs.Refusals.{heard};
 ghost use Rattle.policy.specs.declared.Refusal.TheVariants.{LengthWrong};
 ghost use Rattle.wire.specs.Buffers.{filled};
 ghost use Rattle.sheet.specs.Steps.{pair_at};
 ghost use Rattle.load.specs.Load.{no_load};
 ghost use Rattle.load.specs.Packets.{added_to, hits_in};
-ghost use Rattle.load.specs.Steps.{load_value, added_heard};
+ghost use Rattle.load.specs.Steps.{load_value};
 ghost use Rattle.reporting.specs.Report.{are_readings, totals_size, totals_of, hits_size, Reports};
 
 use groups::WORK_BYTES;
@@ -102,7 +103,7 @@ fn put_totals(totals: &mut [u64], t: Load)
 }
 
 fn load_all(sheet: CheckedSheet<'_>, packets: &[u8]) -> Result<Load, Refusal>
-    ensures { added_heard result ≡ added_to (pair_at sheet.entry.layout sheet.entry.bytes.now) no_load packets.now }
+    ensures { heard load_value result ≡ added_to (pair_at sheet.entry.layout sheet.entry.bytes.now) no_load packets.now }
 {
     let mut table = [0u32; TABLE_NUMBERS];
     load::add_block(Load::none(), packets, TabledSheet::new(sheet, &mut table))
@@ -121,26 +122,18 @@ pub fn report(
     ensures { Reports sheet.now packets.now earlier.now later.now totals.old hits.old work.old result totals.new hits.new work.new }
 {
     if totals.len() < TOTALS_NUMBERS {
-        return Answer::Refused(Refusal::BufferShort);
+        return Err(Refusal::BufferShort);
     }
     if hits.len() < HITS_NUMBERS {
-        return Answer::Refused(Refusal::BufferShort);
+        return Err(Refusal::BufferShort);
     }
     if work.len() < WORK_BYTES {
-        return Answer::Refused(Refusal::BufferShort);
+        return Err(Refusal::BufferShort);
     }
-    match CheckedSheet::new(sheet, work) {
-        Err(f) => Answer::Refused(f),
-        Ok(checked) => match Readings::new(earlier, later, checked.places()) {
-            Err(f) => Answer::Refused(f),
-            Ok(readings) => match load_all(checked, packets) {
-                Err(f) => Answer::Refused(f),
-                Ok(t) => {
-                    put_totals(totals, t);
-                    put_hits(hits, readings);
-                    Answer::Length(readings.places)
-                }
-            },
-        },
-    }
+    let checked = CheckedSheet::new(sheet, work)?;
+    let readings = Readings::new(earlier, later, checked.places())?;
+    let load = load_all(checked, packets)?;
+    put_totals(totals, load);
+    put_hits(hits, readings);
+    Ok(readings.places)
 }

@@ -17,7 +17,7 @@ ghost use Rattle.rows.specs.Steps.{row_size, table_size, row_numbers, rows_numbe
 
 use filter::is_within;
 use origins::{Boxes, CheckedSheet, Group, Run};
-use policy::{BOX_BYTES, Box, COUNT_BYTES, FIELDS, GATE_MOST, Packet, TOTAL_MOST};
+use policy::{BOX_BYTES, Box, COUNT_BYTES, FIELDS, GATE_MOST, Packet, Range, TOTAL_MOST};
 
 // The numbers of a row: for each field its low, and how far its high lies above it.
 const ROW_NUMBERS: usize = 2 * FIELDS;
@@ -46,7 +46,11 @@ fn row_has(p: Packet, table: &[u32], at: usize) -> bool
     let values = p.values;
     for k in 0..FIELDS {
         let low = table[at + 2 * k];
-        if !is_within(values[k], low, low + table[at + 2 * k + 1]) {
+        let range = Range {
+            low,
+            high: low + table[at + 2 * k + 1],
+        };
+        if !is_within(values[k], range) {
             return false;
         }
     }
@@ -58,11 +62,10 @@ fn put_row(table: &mut [u32], at: usize, b: Box)
     requires { (at + row_size ≤ length table.old) × Proper (region_of b) }
     ensures { table.new ≡ sets table.old at (row_numbers (region_of b)) }
 {
-    let low = b.low;
-    let high = b.high;
     for k in 0..FIELDS {
-        table[at + 2 * k] = low[k];
-        table[at + 2 * k + 1] = high[k] - low[k];
+        let range = b.range(k);
+        table[at + 2 * k] = range.low;
+        table[at + 2 * k + 1] = range.high - range.low;
     }
 }
 

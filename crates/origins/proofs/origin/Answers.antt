@@ -1,7 +1,6 @@
 -- `origin` meets its contract. Assumes nothing.
 use mathlib.Core.Path.{sym, ap, ◌∙◌}
-use mathlib.Core.List.{List}
-use Prim.Native.Nat.{ℕ}
+use Rattle.std.proofs.lemmas.Result.{err_from_is_err_and}
 use Rattle.policy.specs.Fields.{limits}
 use Rattle.promises.specs.Calls.{check_of}
 use Rattle.origins.proofs.Calls.{numbers_short, work_too_short, origin_refused, origin_told}
@@ -13,11 +12,15 @@ returns-then-numbers-lt-ORIGIN_NUMBERS c = numbers_short _ _ _ _ c.if-numbers-lt
 pub returns-then-work-lt-WORK_BYTES : goal.returns-then-work-lt-WORK_BYTES
 returns-then-work-lt-WORK_BYTES c = work_too_short _ _ _ _ c.if-numbers-lt-ORIGIN_NUMBERS.false c.if-work-lt-WORK_BYTES.true
 
-pub returns-in-Err : goal.returns-in-Err
-returns-in-Err c =
-    origin_refused _ _ _ _ c.if-numbers-lt-ORIGIN_NUMBERS.false c.if-work-lt-WORK_BYTES.false c.new.ensures.cleared c.in-Err.ensures.checks
+pub returns-in_err-checked : goal.returns-in_err-checked
+returns-in_err-checked c =
+    let e = c.in_err-checked.ensures in
+    let refused = err_from_is_err_and c.from_residual.result c.from_residual.ensures.1 in
+    rw (refused.1, refused.2)
+    (origin_refused _ _ _ _ c.if-numbers-lt-ORIGIN_NUMBERS.false c.if-work-lt-WORK_BYTES.false e.cleared e.checks)
 
-pub returns-in-Ok : goal.returns-in-Ok
-returns-in-Ok c =
-    origin_told _ _ _ _ c.if-numbers-lt-ORIGIN_NUMBERS.false c.if-work-lt-WORK_BYTES.false c.new.ensures.cleared
-    (ap (λ (s : List ℕ). check_of limits s) (sym c.in-Ok.ensures.checks) ∙ c.in-Ok.checked.checked.checks) c.trace_packet.ensures.traced c.tell.ensures
+pub returns : goal.returns
+returns c =
+    let e = c.in_ok-checked.ensures in
+    origin_told _ _ _ _ c.if-numbers-lt-ORIGIN_NUMBERS.false c.if-work-lt-WORK_BYTES.false e.cleared
+    (ap (check_of limits) (sym e.checks) ∙ c.in_ok-checked.checked.checked.checks) c.trace_packet.ensures.traced c.tell.ensures

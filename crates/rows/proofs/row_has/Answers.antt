@@ -11,8 +11,8 @@ use Rattle.rows.proofs.row_has.Goals as goal
 pub loop-k-init : goal.loop-k-init
 loop-k-init c = let e : c.args.at + 2 * 0 ≡ c.args.at = omega arith in (search rules, rw e c.requires.1, rw e refl)
 
-pub overflow_add-low-in-loop-k : goal.overflow_add-low-in-loop-k
-overflow_add-low-in-loop-k c =
+pub overflow_add-range-in-loop-k-2 : goal.overflow_add-range-in-loop-k-2
+overflow_add-range-in-loop-k-2 c =
     let h = c.loop-k in
     let f = field_small h.k c.args.table.now (c.args.at + 2 * h.k) (omega arith) (omega arith) h.invariant.1 in
     omega (arith, f.0)
