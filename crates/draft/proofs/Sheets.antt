@@ -1,7 +1,7 @@
 -- What the group writer and the writing of all groups leave. Assumes nothing.
 use mathlib.Core.Path.{◌≡◌, ap, sym, ◌∙◌}
 use mathlib.Core.List.{List, ◌++◌}
-use Prim.Native.Nat.{ℕ, zero, suc, ◌+◌, ◌*◌, ◌-◌, ◌≤◌, ◌<◌}
+use Prim.Native.Nat.{ℕ, zero, suc, ◌+◌, ◌*◌, ◌-◌, ◌≤◌}
 use native.Mathlib.Omega.{arith}
 use lib.ListN.{length, take, drop, length-drop}
 use lib.Seq.{sets, take_all, take-add, drop-drop, length-sets, length-take-le}
@@ -51,21 +51,20 @@ module _ (first draft sheet : List ℕ) (at from : ℕ) (so_far : sheet ≡ sets
   groups_all h = so_far ∙ ap (sets first at) (take_all from draft (omega (arith, length-drop from draft)))
 
 -- the next of the groups that lie in the draft from a byte on: its count, where it ends, and the groups behind it
-module _ (left : ℕ) (draft : List ℕ) (from : ℕ) (more : 0 < left) (laid : Laid left (drop from draft)) (within : from ≤ length draft) where
-  front : (k : ℕ) → left ≡ suc k → Laid (suc k) (drop from draft)
-  front k e = rw (← e) laid
+module _ (left next : ℕ) (draft : List ℕ) (from : ℕ) (more : left ≡ next + 1) (laid : Laid left (drop from draft)) (within : from ≤ length draft) where
+  front : Laid (suc next) (drop from draft)
+  front = let e : left ≡ suc next = omega arith in rw e at laid
 
   pub laid_count : from + count_size ≤ length draft
   unfolding Laid
-  laid_count = omega (arith, length-drop from draft, (front (left - 1) (omega arith)).0)
+  laid_count = omega (arith, length-drop from draft, front.0)
 
   pub laid_next : (n : ℕ) → n ≡ count_in (drop from draft)
-      → (from + count_size + box_size * n ≤ length draft) × Laid (left - 1) (drop (from + count_size + box_size * n) draft)
+      → (from + count_size + box_size * n ≤ length draft) × Laid next (drop (from + count_size + box_size * n) draft)
   unfolding Laid
   laid_next n e =
-      let f = front (left - 1) (omega arith) in
       let g : from + group_size (count_in (drop from draft)) ≡ from + count_size + box_size * n = rw (← e) (omega arith) in
-      (omega (arith, length-drop from draft, f.1), rw (← g, ← drop-drop (group_size (count_in (drop from draft))) from draft) f.2)
+      (omega (arith, length-drop from draft, front.1), rw (← g, ← drop-drop (group_size (count_in (drop from draft))) from draft) front.2)
 
 pub laid_none : (left : ℕ) (s : List ℕ) → left ≤ 0 → Laid left s → length s ≡ 0
 unfolding Laid

@@ -9,7 +9,7 @@ use lib.Seq.{sets, length-take-le}
 use Rattle.lists.proofs.Parts.{tail_sets}
 use Rattle.policy.specs.Fields.{box_size, count_size, record_size, limits, work_size}
 use Rattle.policy.specs.Ranges.{Region}
-use Rattle.policy.specs.Rules.{is_allow}
+use Rattle.policy.specs.Rules.{Rule, is_allow}
 use Rattle.policy.specs.Cut.{group}
 use Rattle.policy.specs.Move.{over}
 use Rattle.policy.proofs.Groups.{over_few}
@@ -23,10 +23,7 @@ use Rattle.draft.specs.declared.Drafted.{Drafted}
 use Rattle.std.specs.Prelude.{Result, Ok, Err}
 use Rattle.policy.specs.declared.Refusal.{Refusal}
 use Rattle.policy.specs.declared.Refusal.TheVariants.{TooManyPieces}
-use Rattle.draft.proofs.Drafts.{drafting_none, drafting_over, further, drafting_then, drafting_one_over, drafting_one, stretch_none, stretch_next, stretch_allow, stretch_deny, rules_sound_front, further_none, further_twice, one_slot}
-
-pub appended_past : (draft : List ℕ) (at boxes n : ℕ) (content : List ℕ) → limits.total < boxes → Appended draft at boxes n content at draft
-appended_past draft at boxes n content h = record { put = λ k. absurd (omega arith); short = omega arith }
+use Rattle.draft.proofs.Drafts.{drafting_none, drafting_over, further, drafting_then, drafting_one_over, drafting_one, stretch_none, stretch_next, stretch_allow, stretch_deny, rules_sound_front, further_twice, one_slot}
 
 pub appended_in : (draft : List ℕ) (at boxes n : ℕ) (content y last : List ℕ) → length content ≡ box_size * n → at + group_size n ≤ length draft
     → y ≡ sets (take (length draft - at) (drop at draft)) 0 (number_bytes count_size n ++ content)
@@ -62,6 +59,10 @@ module _ {ds : List Region} {rules : List ℕ} {i : ℕ} {w w' : List ℕ} where
       let z = worked_boxes x in
       let f = over_few limits.pieces ds (allows_at i rules) z.0 h in
       omega arith
+
+-- what the rule that was read tells of the rule at a place
+pub allow_told : (rules : List ℕ) (i : ℕ) {r : Rule} {told answer : Bool} → r ≡ rule_in (drop (record_size * i) rules) → told ≡ is_allow r → told ≡ answer → is_allow (rule_in (drop (record_size * i) rules)) ≡ answer
+allow_told rules i e f g = rw e at (sym f ∙ g)
 
 module _ (start : Region → List Region) {rules : List ℕ} {i : ℕ} {draft : List ℕ} {at boxes : ℕ} {w : List ℕ} (ready : Ready rules i (i + 1) draft at boxes w) where
   pub drafted_allow : is_allow (rule_in (drop (record_size * i) rules)) ≡ true → DraftedGroups start rules i (i + 1) draft at boxes w (Ok (record { groups = 0; boxes = boxes; end = at })) draft w
@@ -108,9 +109,6 @@ pub record Going (start : Region → List Region) (rules : List ℕ) (from to : 
   pub onward : (r : Result Drafted Refusal) (last : List ℕ) → Drafting limits (stretch start i to rules) draft end sum r last → Drafting limits (stretch start from to rules) draft₀ 0 boxes (further count r) last
 
 module _ {start : Region → List Region} {rules : List ℕ} {from to : ℕ} {draft₀ : List ℕ} {boxes : ℕ} {work₀ : List ℕ} (ready : Ready rules from to draft₀ 0 boxes work₀) where
-  pub going_first : Going start rules from to draft₀ boxes work₀ draft₀ work₀ from 0 0 boxes
-  going_first = record { up_to = ready.up_to; few = omega arith; long = refl; work_long = refl; bounded = ready.start; beyond = refl; onward = λ r last d. rw (further_none r) d }
-
   module _ {draft work : List ℕ} {i count end sum : ℕ} (g : Going start rules from to draft₀ boxes work₀ draft work i count end sum) where
     pub going_done : to ≤ i → DraftedGroups start rules from to draft₀ 0 boxes work₀ (Ok (record { groups = count; boxes = sum; end = end })) draft work
     going_done h =

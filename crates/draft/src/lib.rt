@@ -85,22 +85,19 @@ pub fn draft_groups(
     requires { Ready rules.now from to draft.old 0 boxes work.old }
     ensures { DraftedGroups alone rules.now from to draft.old 0 boxes work.old result draft.new work.new }
 {
-    let mut i = from;
-    let mut count: usize = 0;
-    let mut end: usize = 0;
-    let mut sum = boxes;
-    while i < to {
-        let one = draft_one(rules, i, draft, end, sum, work)?;
-        count += one.groups;
-        sum = one.boxes;
-        end = one.end;
-        i += 1;
+    let mut done = Drafted {
+        groups: 0,
+        boxes,
+        end: 0,
+    };
+    for i in from..to {
+        let one = draft_one(rules, i, draft, done.end, done.boxes, work)?;
+        done = Drafted {
+            groups: done.groups + one.groups,
+            ..one
+        };
     }
-    Ok(Drafted {
-        groups: count,
-        boxes: sum,
-        end,
-    })
+    Ok(done)
 }
 
 // All groups of the list of `gate` rules that begins the bytes, an order sheet's or a pair sheet's; or number 6.
@@ -123,13 +120,11 @@ pub fn put_groups(sheet: &mut [u8], at: usize, groups: usize, draft: &[u8])
     ensures { sheet.new ≡ sets sheet.old at draft.now }
 {
     let mut from: usize = 0;
-    let mut left = groups;
-    while 0 < left {
+    for _ in 0..groups {
         let n = wire::count_at(draft, from);
         let start = from + COUNT_BYTES;
         let end = start + BOX_BYTES * n;
         put_group(&mut sheet[at + from..], n, &draft[start..end]);
         from = end;
-        left -= 1;
     }
 }

@@ -37,10 +37,6 @@ module _ {out : List ℕ} {m : ℕ} (b : Region) (k x : ℕ) where
     pub above_stored : {part : Region} → x < (range_at b k).high → part ≡ set b k (range (x + 1) (range_at b k).high) → Stored out m (part ∷ []) out' r → Stored out m (part_above b k x) out' r
     above_stored h e s = rw (lt-ltb x (range_at b k).high h, ← e) s
 
-    -- A low part is one box at most.
-    pub below_few : Stored out m (part_below b k x) out' r → r ≤ m + 1
-    below_few s = let f = some_few (ltb (range_at b k).low x) (set b k (range (range_at b k).low (x - 1))) 1 (λ t. omega arith) in omega (arith, s.count)
-
 -- A range that lies in the allow's is narrowed by nothing.
 shared_all : (b : Region) (k : ℕ) (s : Range) → s.low ≤ (range_at b k).low → (range_at b k).high ≤ s.high → b ≡ set b k (shared (range_at b k) s)
 shared_all b k s p q =

@@ -3,11 +3,11 @@ use mathlib.Core.Path.{◌≡◌, ap, sym, ◌∙◌}
 use mathlib.Core.List.{List, ◌++◌, append_assoc}
 use Prim.Native.Nat.{ℕ, ◌+◌, ◌≤◌}
 use native.Mathlib.Omega.{arith}
-use lib.ListN.{length, take, drop, set, length-take, length-drop, length-append}
-use lib.Seq.{sets, length-sets, length-take-le, drop-drop, drop_at, drop-append-le, drop-set-lt}
+use lib.ListN.{length, take, drop, length-take, length-drop, length-append}
+use lib.Seq.{sets, length-sets, length-take-le, drop-drop, drop_at, drop-append-le}
 use Rattle.lists.proofs.Lists.{sets-parts, take-sets}
 use Rattle.policy.specs.Fields.{fields, widths, size_of, box_size}
-use Rattle.policy.specs.Ranges.{Range, Region}
+use Rattle.policy.specs.Ranges.{Region}
 use Rattle.wire.specs.Records.{ranges_bytes, box_bytes}
 use Rattle.wire.proofs.Records.{ranges_bytes-length, ranges_split, size_split}
 use Rattle.groups.specs.Steps.{LaterStand}
@@ -46,7 +46,3 @@ module _ (k : ℕ) (b : Region) where
   later_own piece d ld e later =
       rw (e, ranges_split k widths d, later)
       (drop_at (ranges_bytes (take k widths) d) (ranges_bytes (drop k widths) (drop k d)) (size_of (take k widths)) (front_size k d ld))
-
--- A part has the later fields of the box.
-pub later_part : (k : ℕ) (b : Region) (piece : List ℕ) (part : Region) (r : Range) → part ≡ set b k r → LaterStand (k + 1) b piece → LaterStand (k + 1) part piece
-later_part k b piece part r e later = rw (e, drop-set-lt (k + 1) b k r (omega arith)) later

@@ -1,6 +1,6 @@
 -- The two loops over the pieces: how far an allow leaves them as they are, and what it leaves of the others.
 -- Assumes nothing.
-use mathlib.Core.Path.{◌≡◌, refl, ap, sym, ◌∙◌}
+use mathlib.Core.Path.{◌≡◌, ap, sym, ◌∙◌}
 use mathlib.Core.List.{List, [], ◌∷◌, ◌++◌, append_assoc}
 use Prim.Native.Nat.{ℕ, ◌+◌, ◌*◌, ◌<◌, ◌≤◌}
 use native.Mathlib.Omega.{arith}
@@ -16,9 +16,6 @@ use Rattle.wire.proofs.Records.{fits-length, boxes_in-length, box_in_place}
 use Rattle.groups.specs.Steps.{Stored, Stands, Untouched}
 use Rattle.groups.proofs.Stores.{length-store, stored_then, stored_none}
 use Rattle.groups.proofs.Pieces.{boxes_next, fits_at}
-
-pub untouched_first : (n : ℕ) (pieces : List ℕ) (a : Region) → Untouched n pieces a 0
-untouched_first n pieces a = record { upto = omega arith; left = refl }
 
 pub untouched_next : {n : ℕ} {pieces : List ℕ} {a : Region} {i : ℕ} (d : Region) → Untouched n pieces a i → i < n → d ≡ box_in (drop (box_size * i) pieces) → cut d a ≡ d ∷ [] → Untouched n pieces a (i + 1)
 unfolding cut_each
@@ -38,9 +35,6 @@ pub record Passing (pieces : List ℕ) (first n : ℕ) (a : Region) (out₀ out 
   pub wide : length out ≡ length out₀
   pub onward : (last : List ℕ) (r : ℕ) → Stored out m (cut_each (drop i (boxes_in n pieces)) a) last r
       → Stored out₀ first (cut_each (drop first (boxes_in n pieces)) a) last r
-
-pub passing_first : (pieces : List ℕ) (first n : ℕ) (a : Region) (out : List ℕ) → Passing pieces first n a out out first first
-passing_first pieces first n a out = record { from = omega arith; few = omega arith; wide = refl; onward = λ last r s. s }
 
 module _ {pieces : List ℕ} {first n : ℕ} {a : Region} {out₀ out : List ℕ} {m i : ℕ} (g : Passing pieces first n a out₀ out m i) where
   pub passing_next : {last : List ℕ} {r : ℕ} (st : Stands n pieces) → length a ≡ fields → box_size * n ≤ length pieces → i < n

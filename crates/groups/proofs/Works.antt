@@ -1,5 +1,5 @@
 -- The loop over the rules before a deny rule: what it knows at place j, and what one allow does. Assumes nothing.
-use mathlib.Core.Path.{◌≡◌, refl, ap, sym, ◌∙◌}
+use mathlib.Core.Path.{◌≡◌, ap, sym, ◌∙◌}
 use mathlib.Core.List.{List, [], ◌∷◌}
 use mathlib.Core.Bool.{true, false}
 use Prim.Native.Nat.{ℕ, ◌+◌, ◌*◌, ◌<◌, ◌≤◌}
@@ -52,17 +52,6 @@ pub record Working (start : List Region) (rules : List ℕ) (i : ℕ) (pieces₀
   pub beyond : drop half_size out ≡ drop half_size out₀
   pub boxes : group (boxes_in n pieces) (allows_in (drop j (rules_in i rules))) ≡ group start (allows_at i rules)
   pub number : over capacity (boxes_in n pieces) (allows_in (drop j (rules_in i rules))) ≡ over capacity start (allows_at i rules)
-
-pub working_first : (rules : List ℕ) (i : ℕ) {pieces out : List ℕ} {n : ℕ} → n ≤ capacity → Stands n pieces → Working (boxes_in n pieces) rules i pieces out pieces out n 0
-working_first rules i few st = record {
-  few = few;
-  wide = refl;
-  out_wide = refl;
-  stands = st;
-  beyond = refl;
-  boxes = refl;
-  number = refl;
-}
 
 module _ {start : List Region} {rules : List ℕ} {i : ℕ} {pieces₀ out₀ pieces out : List ℕ} {n j : ℕ} (g : Working start rules i pieces₀ out₀ pieces out n j) where
   module _ (t : j < i) {r : Rule} (e : r ≡ rule_in (drop (record_size * j) rules)) where

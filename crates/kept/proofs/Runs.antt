@@ -2,7 +2,7 @@
 -- Assumes nothing.
 use mathlib.Core.Path.{◌≡◌, refl, ap, sym, ◌∙◌}
 use mathlib.Core.List.{List, ◌∷◌, ◌++◌}
-use Prim.Native.Nat.{ℕ, zero, suc, ◌+◌, ◌*◌, ◌-◌, ◌≤◌, ◌<◌}
+use Prim.Native.Nat.{ℕ, zero, suc, ◌+◌, ◌*◌, ◌-◌, ◌≤◌}
 use native.Mathlib.Omega.{arith}
 use lib.ListN.{length, take, drop, length-append, length-drop, take-append-drop}
 use lib.Seq.{drop-drop, take_all, take-take, take_at, drop_at}
@@ -29,13 +29,11 @@ boxes-cons n s =
     ∙ ap (λ (k : ℕ). k + box_count n (drop (group_size (count_in s)) s)) (boxes_in-length (count_in s) (drop count_size s))
 
 -- the groups from a byte on: the boxes of the first, and the groups behind it
-pub boxes_next : (left : ℕ) (s : List ℕ) (at count : ℕ) → 0 < left → count ≡ count_in (drop at s)
-    → box_count left (drop at s) ≡ count + box_count (left - 1) (drop (at + count_size + box_size * count) s)
-boxes_next left s at count h e =
-    let l : left ≡ suc (left - 1) = omega arith in
-    let p : at + group_size count ≡ at + count_size + box_size * count = omega arith in
-    ap (λ (n : ℕ). box_count n (drop at s)) l ∙ boxes-cons (left - 1) (drop at s)
-    ∙ rw (← e, drop-drop (group_size count) at s, p)
+pub boxes_next : (left next : ℕ) (s : List ℕ) (at count : ℕ) → left ≡ next + 1 → count ≡ count_in (drop at s)
+    → box_count left (drop at s) ≡ count + box_count next (drop (at + (count_size + box_size * count)) s)
+boxes_next left next s at count h e =
+    let l : left ≡ suc next = omega arith in
+    ap (λ (n : ℕ). box_count n (drop at s)) l ∙ boxes-cons next (drop at s) ∙ rw (← e, drop-drop (group_size count) at s)
 
 pub boxes_none : (left : ℕ) (s : List ℕ) → left ≤ 0 → box_count left s ≡ 0
 unfolding groups_from together
@@ -75,6 +73,17 @@ module _ (earlier gone : ℕ) (s : List ℕ) (there : run_size (earlier + gone) 
   part_there =
       let l : length part ≡ length s - at = ap length (tail_whole s at part_inside) ∙ length-drop at s in
       omega (arith, part_boxes)
+
+-- The gap behind the first groups, whose boxes are counted: where it begins, and with the boxes of those that go, how many there are.
+module _ (earlier gone : ℕ) (s : List ℕ) (there : run_size (earlier + gone) s ≤ length s) {front : ℕ} (counted : front ≡ box_count earlier s) where
+  pub gap_begins : count_size * earlier + box_size * front ≡ run_size earlier s
+  gap_begins = ap (λ (n : ℕ). count_size * earlier + box_size * n) counted
+
+  pub gap_inside : count_size * earlier + box_size * front ≤ length s
+  gap_inside = part_inside earlier gone s there (count_size * earlier + box_size * front) gap_begins
+
+  pub gap_counted : {boxes : ℕ} → boxes ≡ box_count gone (part earlier gone s there (count_size * earlier + box_size * front) gap_begins) → boxes + box_count earlier s ≡ box_count (earlier + gone) s
+  gap_counted e = rw e (part_boxes earlier gone s there (count_size * earlier + box_size * front) gap_begins)
 
 -- Groups that are held: a front of them is held too.
 pub groups_count_lem : (n : ℕ) (s : List ℕ) → length (groups_from n s) ≡ n

@@ -22,12 +22,10 @@ pub fn count_boxes(s: &[u8], n: usize) -> usize
 {
     let mut boxes: usize = 0;
     let mut at: usize = 0;
-    let mut left = n;
-    while 0 < left {
+    for _ in 0..n {
         let count = wire::count_at(s, at);
         boxes += count;
-        at = at + COUNT_BYTES + BOX_BYTES * count;
-        left -= 1;
+        at += COUNT_BYTES + BOX_BYTES * count;
     }
     boxes
 }

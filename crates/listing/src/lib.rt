@@ -11,9 +11,7 @@ ghost use Rattle.promises.specs.Calls.{Lists, cell_bytes, cell_list_size, gate_b
 ghost use Rattle.listing.specs.Steps.{box_records, group_records, ListPut, CheckedWithRoom};
 
 use groups::WORK_BYTES;
-use policy::{
-    Answer, BOX_BYTES, Box, COUNT_BYTES, FIELDS, HIGHEST, RECORD_BYTES, Refusal, Rule, TOTAL_MOST,
-};
+use policy::{Answer, BOX_BYTES, COUNT_BYTES, FULL, RECORD_BYTES, Refusal, Rule, TOTAL_MOST};
 use sheet::PairLayout;
 
 // What the cell list and the gate list are lent at least.
@@ -92,11 +90,10 @@ pub fn cell_list(sheet: &[u8], out: &mut [u8], work: &mut [u8]) -> Answer
 fn allow_all() -> Rule
     ensures { rule_of result ≡ rule full 1 }
 {
-    let bounds = Box {
-        low: [0; FIELDS],
-        high: HIGHEST,
-    };
-    Rule { bounds, action: 1 }
+    Rule {
+        bounds: FULL,
+        action: 1,
+    }
 }
 
 // Gate list: check, then one full allow rule, which takes all that is lent at least; the answer is the list's length.

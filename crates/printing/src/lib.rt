@@ -7,9 +7,9 @@ ghost use Rattle.policy.specs.Fields.{count_size};
 
 use groups::WORK_BYTES;
 use listing::{CELL_LIST_BYTES, GATE_LIST_BYTES};
-use policy::{Answer, COUNT_BYTES, FIELDS, RECORD_BYTES, Refusal, Rule, number_of};
+use policy::{COUNT_BYTES, RECORD_BYTES, Refusal, Rule, number_of};
 use sheet::PAIR_BYTES;
-use std::io;
+use std::{fmt, io};
 
 pub fn print_text(rt: &impl Print, text: &[u8]) -> io::Result<()> {
     rt.write_all(text)
@@ -19,81 +19,62 @@ pub fn print_number(rt: &impl Print, n: usize) -> io::Result<()> {
     print!(rt; "{n}")
 }
 
-// One range of a rule, low-high.
-fn print_range(rt: &impl Print, low: u32, high: u32) -> io::Result<()> {
-    print!(rt; " {low}-{high}")
-}
+// A rule's line: its action, and its ranges low-high.
+#[derive(Clone, Copy)]
+struct Line(Rule);
 
-fn print_action(rt: &impl Print, action: u32) -> io::Result<()> {
-    if action == 1 {
-        print_text(rt, b"allow")
-    } else {
-        print_text(rt, b"deny")
+impl fmt::Display for Line {
+    fn fmt<W: fmt::Write>(&self, f: &mut fmt::Formatter<W>) -> fmt::Result {
+        let bounds = self.0.bounds;
+        f.write_str(if self.0.is_allow() { "allow" } else { "deny" })?;
+        for (low, high) in bounds.low.iter().zip(bounds.high.iter()) {
+            write!(f, " {low}-{high}")?;
+        }
+        Ok(())
     }
-}
-
-// One rule's line.
-fn print_rule(rt: &impl Print, rule: Rule) -> io::Result<()> {
-    print_action(rt, rule.action)?;
-    let bounds = rule.bounds;
-    for k in 0..FIELDS {
-        print_range(rt, bounds.low_at(k), bounds.high_at(k))?;
-    }
-    print_text(rt, b"\n")
 }
 
 // A line for each rule of a list.
 fn print_rules(rt: &impl Print, list: &[u8]) -> io::Result<()>
     requires { count_size ≤ length list.now }
 {
-    let mut left = wire::count_at(list, 0);
-    let mut at = COUNT_BYTES;
-    while 0 < left {
-        if list.len() - at < RECORD_BYTES {
-            return Ok(());
-        }
-        print_rule(rt, wire::rule_at(list, at))?;
-        at += RECORD_BYTES;
-        left -= 1;
+    let count = wire::count_at(list, 0);
+    let records = list[COUNT_BYTES..].chunks_exact(RECORD_BYTES);
+    for record in records.take(count) {
+        rt.println(Line(wire::rule_at(record, 0)))?;
     }
     Ok(())
 }
 
-fn print_header(rt: &impl Print, up: usize, down: usize) -> io::Result<()> {
-    println!(rt; "up {up} down {down}")
-}
-
 pub fn print_refusal(rt: &impl Print, f: Refusal) -> io::Result<()> {
-    let number = number_of(f);
-    println!(rt; "refused {number}")
+    println!(rt; "refused {}", number_of(f))
 }
 
-// The two lists, from their bytes.
-fn print_both(rt: &impl Print, gate: &[u8], cell: &[u8]) -> io::Result<()>
+// Both lists of what an order sheet is moved to.
+fn put_lists(order: &[u8], gate: &mut [u8], cell: &mut [u8]) -> Result<(), Refusal> {
+    let mut sheet = [0; PAIR_BYTES];
+    let mut work = [0; WORK_BYTES];
+    let n = moving::move_order(order, &mut sheet, &mut work)?;
+    let pair = &sheet[..n];
+    listing::gate_list(pair, gate, &mut work)?;
+    listing::cell_list(pair, cell, &mut work)?;
+    Ok(())
+}
+
+fn print_lists(rt: &impl Print, gate: &[u8], cell: &[u8]) -> io::Result<()>
     requires { (count_size ≤ length gate.now) × (count_size ≤ length cell.now) }
 {
-    print_header(rt, wire::count_at(gate, 0), wire::count_at(cell, 0))?;
+    let up = wire::count_at(gate, 0);
+    let down = wire::count_at(cell, 0);
+    println!(rt; "up {up} down {down}")?;
     print_rules(rt, cell)
 }
 
-// The two lists of a pair sheet.
-fn print_lists(rt: &impl Print, sheet: &[u8], work: &mut [u8]) -> io::Result<()> {
-    let mut gate = [0u8; GATE_LIST_BYTES];
-    let mut cell = [0u8; CELL_LIST_BYTES];
-    match listing::gate_list(sheet, &mut gate, work) {
-        Answer::Refused(f) => print_refusal(rt, f),
-        Answer::Length(_) => match listing::cell_list(sheet, &mut cell, work) {
-            Answer::Refused(f) => print_refusal(rt, f),
-            Answer::Length(_) => print_both(rt, &gate, &cell),
-        },
-    }
-}
-
 pub fn print_plan(rt: &impl Print, order: &[u8]) -> io::Result<()> {
-    let mut sheet = [0u8; PAIR_BYTES];
-    let mut work = [0u8; WORK_BYTES];
-    match moving::move_order(order, &mut sheet, &mut work) {
-        Answer::Refused(f) => print_refusal(rt, f),
-        Answer::Length(n) => print_lists(rt, &sheet[..n], &mut work),
+    let mut gate = [0; GATE_LIST_BYTES];
+    let mut cell = [0; CELL_LIST_BYTES];
+    match put_lists(order, &mut gate, &mut cell) {
+        Ok(()) => print_lists(rt, &gate, &cell),
+        Err(f) => print_refusal(rt, f),
     }
 }

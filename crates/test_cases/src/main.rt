@@ -2,7 +2,7 @@
 // number that each call answers is printed. The format stands in tests/second/README.md.
 #![tactic(auto)]
 
-ghost use Rattle.std.specs.Prelude.{◌≤◌, ◌<◌, length, IfOk};
+ghost use Rattle.std.specs.Prelude.{◌<◌, IfOk};
 
 use foldplover::{foldplover_delete, foldplover_insert, foldplover_move, foldplover_replace};
 use groups::WORK_BYTES;
@@ -11,136 +11,122 @@ use sheet::PAIR_BYTES;
 use std::io;
 use std::io::Read;
 
-// An edit as the stream has it.
+// A stream is played up to so many cases.
+const CASES_MOST: u64 = 1000000;
+
+// The bytes of the longest order sheet that a stream can have: their number has two bytes.
+const ORDER_MOST: usize = 65535;
+
+// What an edit does at its place, with the record that it puts there.
 #[derive(Clone, Copy)]
-struct Edit {
-    kind: u8,
-    which: u8,
-    place: usize,
-    record: [u8; RECORD_BYTES],
+enum Change {
+    Insert([u8; RECORD_BYTES]),
+    Delete,
+    Replace([u8; RECORD_BYTES]),
 }
 
-fn read_byte(input: &mut impl Read) -> io::Result<u8> {
-    let mut one = [0u8; 1];
-    reading::read_full(input, &mut one)?;
-    Ok(one[0])
+// An edit as the stream has it. Its list is a number, as the calls for C take it: 0 is A, 1 is B, and any other is neither.
+#[derive(Clone, Copy)]
+struct Edit {
+    which: u32,
+    place: usize,
+    change: Change,
+}
+
+// A pair sheet in its buffer, and its length, as the calls for C take them.
+#[derive(Clone, Copy)]
+struct Pair {
+    sheet: [u8; PAIR_BYTES],
+    used: usize,
+}
+
+// So many bytes; zeros where the stream ends.
+fn read_bytes<const N: usize>(input: &mut impl Read) -> io::Result<[u8; N]> {
+    let mut bytes = [0; N];
+    reading::read_full(input, &mut bytes)?;
+    Ok(bytes)
 }
 
 // A number of two bytes; 0 where the stream ends.
 fn read_number(input: &mut impl Read) -> io::Result<usize>
     ensures { IfOk result (λ n. n < 65536) }
 {
-    let mut two = [0u8; COUNT_BYTES];
-    reading::read_full(input, &mut two)?;
-    Ok(wire::count_at(&two, 0))
+    let bytes: [u8; COUNT_BYTES] = read_bytes(input)?;
+    Ok(wire::count_at(&bytes, 0))
 }
 
 fn read_edit(input: &mut impl Read) -> io::Result<Edit> {
-    let kind = read_byte(input)?;
-    let which = read_byte(input)?;
+    let [kind, which]: [u8; 2] = read_bytes(input)?;
     let place = read_number(input)?;
-    let mut record = [0u8; RECORD_BYTES];
-    if kind != 1 {
-        reading::read_full(input, &mut record)?;
-    }
+    // Any kind above 1 is a replace.
+    let change = match kind {
+        0 => Change::Insert(read_bytes(input)?),
+        1 => Change::Delete,
+        _ => Change::Replace(read_bytes(input)?),
+    };
     Ok(Edit {
-        kind,
-        which,
+        which: which as u32,
         place,
-        record,
+        change,
     })
 }
 
-// A byte times its number, counted from 1.
-fn weighed(byte: u8, i: usize) -> usize
-    requires { i < 65536 }
-    ensures { result ≤ 16777216 }
-{
-    (i + 1) * byte as usize
-}
-
-// The sum of the bytes of a sheet, each times its number.
-fn sum_of(sheet: &[u8], used: usize) -> usize
-    requires { length sheet.now < 65536 }
-{
-    let mut sum: usize = 0;
-    let mut i: usize = 0;
-    while i < used {
-        if sheet.len() <= i {
-            return sum;
-        }
-        sum = (sum + weighed(sheet[i], i)) % 4294967296;
-        i += 1;
-    }
-    sum
-}
-
-// One edit done; the number that it is answered with.
-fn edited(sheet: &mut [u8], used: usize, e: Edit) -> u32 {
-    let mut work = [0u8; WORK_BYTES];
-    let record = e.record;
-    let which = e.which as u32;
-    if e.kind == 0 {
-        return foldplover_insert(sheet, used, which, e.place, &record, &mut work);
-    }
-    if e.kind == 1 {
-        return foldplover_delete(sheet, used, which, e.place, &mut work);
-    }
-    foldplover_replace(sheet, used, which, e.place, &record, &mut work)
-}
-
-// One edit done and printed, unless the move was refused; the sheet's length after it.
-fn play_edit(
-    rt: &impl Print,
-    sheet: &mut [u8],
-    moved: u32,
-    used: usize,
-    e: Edit,
-) -> io::Result<usize>
-    requires { length sheet.old < 65536 }
-{
-    if REFUSAL_BASE <= moved {
-        return Ok(used);
-    }
-    let answer = edited(sheet, used, e);
-    let mut length = used;
+// The length that a call's number says; none where it is a refusal's.
+fn length_of(answer: u32) -> Option<usize> {
     if answer < REFUSAL_BASE {
-        length = answer as usize;
+        return Some(answer as usize);
     }
-    let sum = sum_of(sheet, length);
-    println!(rt; "edit {answer} sum {sum}")?;
-    Ok(length)
+    None
 }
 
-// The edits of one order sheet, whose move gave this number.
-fn play_edits(
-    rt: &impl Print,
-    input: &mut impl Read,
-    sheet: &mut [u8],
-    moved: u32,
-) -> io::Result<()>
-    requires { length sheet.old < 65536 }
-{
-    let mut used = moved as usize;
-    let mut left = read_number(input)?;
-    while 0 < left {
-        used = play_edit(rt, sheet, moved, used, read_edit(input)?)?;
-        left -= 1;
+fn moved(order: &[u8], sheet: &mut [u8]) -> u32 {
+    let mut work = [0; WORK_BYTES];
+    foldplover_move(order, sheet, &mut work)
+}
+
+impl Pair {
+    // An edit done; the number that it is answered with.
+    fn edit(&mut self, e: Edit) -> u32 {
+        let mut work = [0; WORK_BYTES];
+        let sheet = &mut self.sheet;
+        let used = self.used;
+        match e.change {
+            Change::Insert(record) => foldplover_insert(
+                sheet, used, e.which, e.place, &record, &mut work,
+            ),
+            Change::Delete => foldplover_delete(sheet, used, e.which, e.place, &mut work),
+            Change::Replace(record) => foldplover_replace(
+                sheet, used, e.which, e.place, &record, &mut work,
+            ),
+        }
+    }
+
+    // The sum of its bytes, each times its number, counted from 1, in 32 bits.
+    fn sum(&self) -> u32 {
+        let mut sum: u32 = 0;
+        for (byte, number) in self.sheet.iter().take(self.used).zip(1u32..) {
+            sum = sum.wrapping_add(number.wrapping_mul(*byte as u32));
+        }
+        sum
+    }
+
+    // One edit done and printed.
+    fn play_edit(&mut self, rt: &impl Print, e: Edit) -> io::Result<()> {
+        let answer = self.edit(e);
+        self.used = length_of(answer).unwrap_or(self.used);
+        println!(rt; "edit {answer} sum {}", self.sum())
+    }
+}
+
+// The edits of one order sheet; they are passed over where its move was refused.
+fn play_edits(rt: &impl Print, input: &mut impl Read, mut pair: Option<Pair>) -> io::Result<()> {
+    for _ in 0..read_number(input)? {
+        let e = read_edit(input)?;
+        if let Some(pair) = &mut pair {
+            pair.play_edit(rt, e)?;
+        }
     }
     Ok(())
-}
-
-fn read_part(input: &mut impl Read, order: &mut [u8], n: usize) -> io::Result<usize>
-    requires { n ≤ length order.old }
-{
-    reading::read_full(input, &mut order[..n])
-}
-
-fn move_part(order: &[u8], n: usize, sheet: &mut [u8]) -> u32
-    requires { n ≤ length order.now }
-{
-    let mut work = [0u8; WORK_BYTES];
-    foldplover_move(&order[..n], sheet, &mut work)
 }
 
 // One order sheet and its edits; whether there was one.
@@ -149,20 +135,25 @@ fn play_case(rt: &impl Print, input: &mut impl Read) -> io::Result<bool> {
     if n == 0 {
         return Ok(false);
     }
-    let mut order = [0u8; 65535];
-    let mut sheet = [0u8; PAIR_BYTES];
-    read_part(input, &mut order, n)?;
-    let answer = move_part(&order, n, &mut sheet);
+    let mut order = [0; ORDER_MOST];
+    let mut sheet = [0; PAIR_BYTES];
+    reading::read_full(input, &mut order[..n])?;
+    let answer = moved(&order[..n], &mut sheet);
     println!(rt; "move {answer}")?;
-    play_edits(rt, input, &mut sheet, answer)?;
+    play_edits(
+        rt,
+        input,
+        length_of(answer).map(|used| Pair { sheet, used }),
+    )?;
     Ok(true)
 }
 
 fn main(rt: HostRuntime) -> io::Result<()> {
     let mut input = rt.stdin();
-    let mut turns: u64 = 1000000;
-    while turns > 0 && play_case(&rt, &mut input)? {
-        turns -= 1;
+    for _ in 0..CASES_MOST {
+        if !play_case(&rt, &mut input)? {
+            break;
+        }
     }
     Ok(())
 }

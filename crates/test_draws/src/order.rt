@@ -1,150 +1,219 @@
-// The program's own order sheet. It is edited by plain copying, with nothing of the library's edit.
-ghost use Rattle.std.specs.Prelude.{◌<◌, ◌≤◌};
-ghost use Rattle.policy.specs.Fields.{record_size};
+// Order sheets as the test programs write them, and lists that are edited record by record, with nothing of the library's edit.
+// Memory is fixed: a sheet's bytes and a list's records are the first of an array.
+ghost use Rattle.std.specs.Prelude.{◌≡◌, ◌≤◌, ◌<◌, ◌+◌, ◌-◌, ◌*◌, [], ◌∷◌, ◌++◌, length, take, IsErr, OnOk, OnErr};
+ghost use Rattle.policy.specs.Fields.{count_size, record_size};
+ghost use Rattle.policy.specs.Rules.{rule, full};
+ghost use Rattle.policy.specs.Values.{rule_of};
+ghost use Rattle.test_draws.specs.Order.{Added, count_after, count_put, list_put, record_put};
 
-use crate::{DELETE, Edit, INSERT, full_box};
-use policy::{COUNT_BYTES, RECORD_BYTES, Rule};
-use sheet::ORDER_BYTES;
+use crate::Edit;
+use policy::{Box, COUNT_BYTES, FIELDS, HIGHEST, OWN_MOST, RECORD_BYTES, Refusal, Rule};
+use promises::Change;
 
-// The largest order sheet, and a record more: an insert may make a list too long.
-pub const LISTS_BYTES: usize = ORDER_BYTES + RECORD_BYTES;
+// A rule's action is a number, as C lends it.
+pub const DENY: u32 = 0;
 
-// The count at `at`; 0 behind the end.
-fn count_at(order: &[u8], at: usize) -> usize
-    ensures { result < 65536 }
+pub const ALLOW: u32 = 1;
+
+// The longest list, and a rule more: an insert may make a list too long.
+const LIST_RULES: usize = OWN_MOST + 1;
+
+// The order sheet of two lists that long.
+const LISTS_BYTES: usize = 2 * (COUNT_BYTES + RECORD_BYTES * LIST_RULES);
+
+type Record = [u8; RECORD_BYTES];
+
+#[derive(Clone, Copy)]
+pub struct Sheet {
+    bytes: [u8; LISTS_BYTES],
+    used: usize,
+    ghost within: { used ≤ length bytes },
+}
+
+#[derive(Clone, Copy)]
+struct List {
+    records: [Record; LIST_RULES],
+    count: usize,
+    ghost within: { count ≤ length records },
+}
+
+// A and B.
+#[derive(Clone, Copy)]
+pub struct Lists {
+    gate: List,
+    own: List,
+}
+
+// The rule for every packet.
+pub fn full(action: u32) -> Rule
+    ensures { rule_of result ≡ rule full action }
 {
-    if order.len() < COUNT_BYTES {
-        return 0;
+    Rule {
+        bounds: Box {
+            low: [0; FIELDS],
+            high: HIGHEST,
+        },
+        action,
     }
-    if order.len() - COUNT_BYTES < at {
-        return 0;
-    }
-    wire::count_at(order, at)
 }
 
-// Where the section of A, or that of B, begins.
-fn start_of(order: &[u8], which: u32) -> usize
-    ensures { result < 2097152 }
+fn record_of(rule: Rule) -> Record
+    ensures { result ≡ record_put (rule_of rule) }
 {
-    if which == 0 {
-        return 0;
-    }
-    COUNT_BYTES + RECORD_BYTES * count_at(order, 0)
+    let mut record = [0; RECORD_BYTES];
+    wire::put_rule(&mut record, 0, rule);
+    record
 }
 
-// How many rules A, or B, has.
-pub fn count_in(order: &[u8], which: u32) -> usize
-    ensures { result < 65536 }
-{
-    count_at(order, start_of(order, which))
+impl Sheet {
+    pub fn new() -> Sheet
+        ensures { result.used ≡ 0 }
+    {
+        Sheet {
+            bytes: [0; LISTS_BYTES],
+            used: 0,
+        }
+    }
+
+    pub fn bytes(&self) -> &[u8]
+        ensures { result.now ≡ take self.now.used self.now.bytes }
+    {
+        &self.bytes[..self.used]
+    }
+
+    // What does not fit is left out.
+    fn add(&mut self, new: &[u8])
+        ensures { Added self.old.used self.old.bytes new.now self.new.used self.new.bytes }
+    {
+        if new.len() <= LISTS_BYTES - self.used {
+            self.used = wire::put_bytes(&mut self.bytes, self.used, new);
+        }
+    }
+
+    pub fn add_count(&mut self, count: usize)
+        requires { count < 65536 }
+        ensures { Added self.old.used self.old.bytes (count_put count) self.new.used self.new.bytes }
+    {
+        let mut bytes = [0; COUNT_BYTES];
+        wire::put_count(&mut bytes, 0, count);
+        self.add(&bytes);
+    }
+
+    pub fn add_rule(&mut self, rule: Rule)
+        ensures { Added self.old.used self.old.bytes (record_put (rule_of rule)) self.new.used self.new.bytes }
+    {
+        self.add(&record_of(rule));
+    }
+
+    fn add_list(&mut self, list: &List)
+        requires { self.old.used + (count_size + record_size * list.now.count) ≤ length self.old.bytes }
+        ensures length { length self.new.bytes ≡ length self.old.bytes }
+        ensures used { self.new.used ≡ self.old.used + (count_size + record_size * list.now.count) }
+        ensures bytes { take self.new.used self.new.bytes ≡ take self.old.used self.old.bytes ++ list_put list.now.count list.now.records }
+    {
+        self.add_count(list.count);
+        for record in list.records() {
+            self.add(record);
+        }
+    }
 }
 
-fn end_of(order: &[u8]) -> usize {
-    start_of(order, 1) + COUNT_BYTES + RECORD_BYTES * count_in(order, 1)
+impl List {
+    fn of_one(rule: Rule) -> List
+        ensures { take result.count result.records ≡ record_put (rule_of rule) ∷ [] }
+    {
+        List {
+            records: [record_of(rule); LIST_RULES],
+            count: 1,
+        }
+    }
+
+    fn records(&self) -> &[Record]
+        ensures { result.now ≡ take self.now.count self.now.records }
+    {
+        &self.records[..self.count]
+    }
+
+    fn insert(&mut self, place: usize, record: Record) -> Result<(), Refusal>
+        requires { place ≤ self.old.count }
+        ensures done { OnOk result (self.new.count ≡ self.old.count + 1) }
+        ensures refused { OnErr result (self.new ≡ self.old) }
+    {
+        if LIST_RULES <= self.count {
+            return Err(Refusal::CountOutside);
+        }
+        self.count += 1;
+        self.records[place..self.count].rotate_right(1);
+        self.records[place] = record;
+        Ok(())
+    }
+
+    fn remove(&mut self, place: usize)
+        requires { place < self.old.count }
+        ensures { self.new.count ≡ self.old.count - 1 }
+    {
+        self.records[place..self.count].rotate_left(1);
+        self.count -= 1;
+    }
+
+    #[tactic(auto, unfolding(crate::specs::Order::count_after))]
+    fn edit(&mut self, e: &Edit) -> Result<(), Refusal>
+        ensures done { OnOk result (self.new.count ≡ count_after e.now.change self.old.count) }
+        ensures refused { OnErr result (self.new ≡ self.old) }
+    {
+        let place = e.place;
+        match e.change {
+            Change::Insert if place <= self.count => self.insert(place, e.record()?)?,
+            Change::Delete if place < self.count => self.remove(place),
+            Change::Replace if place < self.count => self.records[place] = e.record()?,
+            _ => return Err(Refusal::NoPlace),
+        }
+        Ok(())
+    }
 }
 
-// Whether the lists have the place of an edit.
-pub fn has_place(order: &[u8], e: Edit) -> bool {
-    if 1 < e.which {
-        return false;
+impl Lists {
+    // The lists that a run begins with: the gate denies everything, the cell allows everything.
+    pub fn first() -> Lists
+        ensures gate { take result.gate.count result.gate.records ≡ record_put (rule full 0) ∷ [] }
+        ensures own { take result.own.count result.own.records ≡ record_put (rule full 1) ∷ [] }
+    {
+        Lists {
+            gate: List::of_one(full(DENY)),
+            own: List::of_one(full(ALLOW)),
+        }
     }
-    let count = count_in(order, e.which);
-    if e.kind == INSERT {
-        return e.place <= count;
-    }
-    e.place < count
-}
 
-// A list's count after an edit.
-fn count_after(count: usize, kind: u32) -> usize
-    requires { count < 65536 }
-    ensures { result ≤ 65536 }
-{
-    if kind == INSERT {
-        return count + 1;
+    // How many rules the list has: A, or B where the number is not A's.
+    pub(crate) fn count(&self, which: u32) -> usize
+        ensures { result < 65536 }
+    {
+        match which {
+            0 => self.gate.count,
+            _ => self.own.count,
+        }
     }
-    if kind == DELETE && 0 < count {
-        return count - 1;
-    }
-    count
-}
 
-fn taken_bytes(kind: u32) -> usize
-    ensures { result ≤ record_size }
-{
-    if kind == INSERT {
-        return 0;
+    // An edit done, or the refusal for which there are no edited lists.
+    pub fn edit(&mut self, e: &Edit) -> Result<(), Refusal>
+        ensures gate { e.now.which ≡ 0 → OnOk result ((self.new.gate.count ≡ count_after e.now.change self.old.gate.count) × (self.new.own ≡ self.old.own)) }
+        ensures own { e.now.which ≡ 1 → OnOk result ((self.new.own.count ≡ count_after e.now.change self.old.own.count) × (self.new.gate ≡ self.old.gate)) }
+        ensures neither { 1 < e.now.which → IsErr result }
+        ensures refused { OnErr result (self.new ≡ self.old) }
+    {
+        match e.which {
+            0 => self.gate.edit(e),
+            1 => self.own.edit(e),
+            _ => Err(Refusal::NoPlace),
+        }
     }
-    RECORD_BYTES
-}
 
-fn put_bytes(kind: u32) -> usize {
-    if kind == DELETE {
-        return 0;
+    pub fn sheet(&self) -> Sheet
+        ensures { take result.used result.bytes ≡ list_put self.now.gate.count self.now.gate.records ++ list_put self.now.own.count self.now.own.records }
+    {
+        let mut sheet = Sheet::new();
+        sheet.add_list(&self.gate);
+        sheet.add_list(&self.own);
+        sheet
     }
-    RECORD_BYTES
-}
-
-fn put_count(next: &mut [u8], at: usize, count: usize) {
-    if next.len() < COUNT_BYTES {
-        return;
-    }
-    if next.len() - COUNT_BYTES < at {
-        return;
-    }
-    wire::put_count(next, at, count % 65536);
-}
-
-// The bytes from `start` up to `end`; all of them where that is no part.
-pub fn part(bytes: &[u8], start: usize, end: usize) -> &[u8] {
-    if end < start {
-        return bytes;
-    }
-    if bytes.len() < end {
-        return bytes;
-    }
-    &bytes[start..end]
-}
-
-// Bytes put into the next sheet; where they end.
-fn add(next: &mut [u8], at: usize, new: &[u8]) -> usize {
-    if next.len() < at {
-        return at;
-    }
-    if next.len() - at < new.len() {
-        return at;
-    }
-    wire::put_bytes(next, at, new)
-}
-
-// The order sheet with an edit done, written as the next one; its length.
-pub fn edit_order(order: &[u8], e: Edit, next: &mut [u8]) -> usize {
-    let start = start_of(order, e.which);
-    let count = count_in(order, e.which);
-    let place = e.place;
-    if count < place {
-        return 0;
-    }
-    let from = start + COUNT_BYTES + RECORD_BYTES * place;
-    let to = from + taken_bytes(e.kind);
-    let record = e.record;
-    let mut at = add(next, 0, part(order, 0, from));
-    at = add(next, at, part(&record, 0, put_bytes(e.kind)));
-    at = add(next, at, part(order, to, end_of(order)));
-    put_count(next, start, count_after(count, e.kind));
-    at
-}
-
-// The order sheet that a run begins with: the gate denies everything, the cell allows everything.
-pub fn first_order(order: &mut [u8]) -> usize {
-    let middle = COUNT_BYTES + RECORD_BYTES;
-    if order.len() < 2 * middle {
-        return 0;
-    }
-    wire::put_count(order, 0, 1);
-    let bounds = full_box();
-    wire::put_rule(order, COUNT_BYTES, Rule { bounds, action: 0 });
-    wire::put_count(order, middle, 1);
-    wire::put_rule(order, middle + COUNT_BYTES, Rule { bounds, action: 1 });
-    2 * middle
 }

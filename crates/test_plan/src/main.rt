@@ -5,6 +5,23 @@ use sheet::ORDER_BYTES;
 use std::rt::Files;
 use std::{fs, io};
 
+const SHEETS: [&str; 14] = [
+    "dairy.order",
+    "plant.order",
+    "refused.order",
+    "empty.order",
+    "largest.order",
+    "longer.order",
+    "no_rule.order",
+    "too_many_rules.order",
+    "cut_off.order",
+    "left_over.order",
+    "low_above_high.order",
+    "action_2.order",
+    "not_full.order",
+    "too_many_boxes.order",
+];
+
 fn case(rt: &(impl Files + Print), name: &str) -> io::Result<()> {
     let mut order = [0u8; ORDER_BYTES + 1];
     let mut file = fs::open(rt, name)?;
@@ -14,18 +31,8 @@ fn case(rt: &(impl Files + Print), name: &str) -> io::Result<()> {
 }
 
 fn main(rt: HostRuntime) -> io::Result<()> {
-    case(&rt, "dairy.order")?;
-    case(&rt, "plant.order")?;
-    case(&rt, "refused.order")?;
-    case(&rt, "empty.order")?;
-    case(&rt, "largest.order")?;
-    case(&rt, "longer.order")?;
-    case(&rt, "no_rule.order")?;
-    case(&rt, "too_many_rules.order")?;
-    case(&rt, "cut_off.order")?;
-    case(&rt, "left_over.order")?;
-    case(&rt, "low_above_high.order")?;
-    case(&rt, "action_2.order")?;
-    case(&rt, "not_full.order")?;
-    case(&rt, "too_many_boxes.order")
+    for name in SHEETS {
+        case(&rt, name)?;
+    }
+    Ok(())
 }

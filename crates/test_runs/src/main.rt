@@ -4,12 +4,12 @@
 
 use foldplover::{foldplover_delete, foldplover_insert, foldplover_move, foldplover_replace};
 use groups::WORK_BYTES;
-use policy::{BOX_BYTES, RECORD_BYTES, REFUSAL_BASE};
-use printing::print_text;
+use policy::{BOX_BYTES, REFUSAL_BASE, Refusal, number_of};
+use promises::Change;
 use sheet::PAIR_BYTES;
-use std::io;
-use test_draws::order::{LISTS_BYTES, part};
-use test_draws::{DELETE, Edit, INSERT, Shape, order};
+use std::{fmt, io};
+use test_draws::order::Lists;
+use test_draws::{Draws, Edit, Shape};
 
 // What lent buffers hold before a call that is to write over it. The sheet of the first move has other bytes than that of a
 // fresh move, so that a byte which neither writes is seen.
@@ -17,328 +17,338 @@ const DIRT: u8 = 165;
 
 const FIRST_DIRT: u8 = 90;
 
-// In place of an answer, where a call did not leave its work buffer zero. The two differ, and no answer is one of them.
-const WORK_LEFT_BY_EDIT: u32 = 4294967295;
+// Small ranges in one of two fields: many cuts.
+const TWO_FIELDS: Shape = Shape {
+    edits: 1500,
+    inserts: 7,
+    deletes: 4,
+    own: 4,
+    allows: 11,
+    bad: 2,
+    full: 12,
+    fields: 2,
+    narrow: 0,
+    span: 400,
+    ends: 0,
+};
 
-const WORK_LEFT_BY_MOVE: u32 = 4294967294;
+// Nearly only allows, and a deny of everything behind them: two fields are enough for too many pieces.
+const STRIPS: Shape = Shape {
+    edits: 3000,
+    inserts: 8,
+    deletes: 3,
+    own: 4,
+    allows: 16,
+    bad: 1,
+    full: 1,
+    fields: 2,
+    narrow: 1,
+    span: 20000,
+    ends: 0,
+};
 
-// The numbers that an edit without edited lists is refused with.
-const NO_PLACE: u32 = REFUSAL_BASE + 9;
+const FIVE_FIELDS: Shape = Shape {
+    edits: 1500,
+    inserts: 7,
+    deletes: 4,
+    own: 4,
+    allows: 10,
+    bad: 2,
+    full: 8,
+    fields: 5,
+    narrow: 3,
+    span: 200,
+    ends: 1,
+};
 
-const NO_RECORD: u32 = REFUSAL_BASE + 3;
+// Mostly inserts of rules that cut little, up to the limits of both lists.
+const GROWTH: Shape = Shape {
+    edits: 1500,
+    inserts: 10,
+    deletes: 2,
+    own: 12,
+    allows: 1,
+    bad: 1,
+    full: 4,
+    fields: 2,
+    narrow: 7,
+    span: 5000,
+    ends: 0,
+};
 
-// The tally: accepted edits at 0, those refused with each number at that number, then five counts for A and five for B of the
-// accepted edits: inserts, deletes, replaces, denies put in, allows put in.
-const TALLIES: usize = BY_LIST + 2 * LIST_TALLIES;
+// Short lists and many bad records; the last rule is often taken out, replaced or followed by another.
+const SHORT_LISTS: Shape = Shape {
+    edits: 1500,
+    inserts: 5,
+    deletes: 5,
+    own: 8,
+    allows: 8,
+    bad: 16,
+    full: 8,
+    fields: 3,
+    narrow: 3,
+    span: 50,
+    ends: 3,
+};
 
-const BY_LIST: usize = 10;
+// The runs, each of a seed and a shape.
+const RUNS: [(u32, Shape); 10] = [
+    (1, TWO_FIELDS),
+    (2, TWO_FIELDS),
+    (6, STRIPS),
+    (8, STRIPS),
+    (11, FIVE_FIELDS),
+    (12, FIVE_FIELDS),
+    (21, GROWTH),
+    (22, GROWTH),
+    (31, SHORT_LISTS),
+    (32, SHORT_LISTS),
+];
 
-const LIST_TALLIES: usize = 5;
+// Why a call gave no length.
+#[derive(Clone, Copy, PartialEq, Eq)]
+enum Fault {
+    // By its number, as C gets it.
+    Refused(u32),
+    // The work buffer was not left zero.
+    WorkLeftByEdit,
+    WorkLeftByMove,
+}
+
+impl From<Refusal> for Fault {
+    fn from(f: Refusal) -> Fault {
+        Fault::Refused(number_of(f))
+    }
+}
+
+// The pair sheet's length, or why there is none.
+type Outcome = Result<usize, Fault>;
+
+// The accepted edits of a list, and the denies and allows that they put in.
+#[derive(Clone, Copy, Default)]
+struct Counts {
+    inserts: u32,
+    deletes: u32,
+    replaces: u32,
+    denies: u32,
+    allows: u32,
+}
+
+impl Counts {
+    fn add(&mut self, e: &Edit) {
+        match e.change {
+            Change::Insert => count_up(&mut self.inserts),
+            Change::Delete => return count_up(&mut self.deletes),
+            Change::Replace => count_up(&mut self.replaces),
+        }
+        // An allow is 1 in a record, a deny 0.
+        match e.bytes().get(BOX_BYTES) {
+            Some(1) => count_up(&mut self.allows),
+            _ => count_up(&mut self.denies),
+        }
+    }
+}
+
+impl fmt::Display for Counts {
+    fn fmt<W: fmt::Write>(&self, f: &mut fmt::Formatter<W>) -> fmt::Result {
+        write!(
+            f,
+            "{} {} {} {} {}",
+            self.inserts, self.deletes, self.replaces, self.denies, self.allows
+        )
+    }
+}
+
+// The numbers that an edit can be answered with: 0 where it is accepted, and those of the refusals.
+const ANSWERS: usize = 10;
+
+// How many edits of a run were answered with each number, and the accepted ones of A and of B.
+#[derive(Clone, Copy, Default)]
+struct Tally {
+    answers: [u32; ANSWERS],
+    gate: Counts,
+    own: Counts,
+}
+
+impl Tally {
+    fn add_answer(&mut self, number: u32) {
+        if let Some(n) = self.answers.get_mut(number as usize) {
+            count_up(n);
+        }
+    }
+
+    fn add_accepted(&mut self, e: &Edit) {
+        self.add_answer(0);
+        match e.which {
+            0 => self.gate.add(e),
+            _ => self.own.add(e),
+        }
+    }
+
+    fn add(&mut self, e: &Edit, outcome: Outcome) {
+        match outcome {
+            Ok(_) => self.add_accepted(e),
+            Err(Fault::Refused(number)) => self.add_answer(number),
+            Err(Fault::WorkLeftByEdit | Fault::WorkLeftByMove) => {}
+        }
+    }
+}
+
+impl fmt::Display for Tally {
+    fn fmt<W: fmt::Write>(&self, f: &mut fmt::Formatter<W>) -> fmt::Result {
+        write!(f, "accepted, refused with 1 to 9:")?;
+        for n in &self.answers {
+            write!(f, " {n}")?;
+        }
+        write!(
+            f,
+            "; inserts, deletes, replaces, denies and allows put in: A {}, B {}",
+            self.gate, self.own
+        )
+    }
+}
+
+fn count_up(n: &mut u32) {
+    *n = n.saturating_add(1);
+}
 
 fn is_zero(work: &[u8]) -> bool {
     let zeros = [0u8; WORK_BYTES];
     work == zeros.as_slice()
 }
 
-// The library's call for an edit.
-fn call_edit(sheet: &mut [u8], used: usize, e: Edit, work: &mut [u8]) -> u32 {
-    let bytes = e.record;
-    let record = part(&bytes, 0, e.size);
-    if e.kind == INSERT {
-        return foldplover_insert(sheet, used, e.which, e.place, record, work);
+// What the number that C gets says.
+fn outcome_of(answer: u32) -> Outcome {
+    match answer.checked_sub(REFUSAL_BASE) {
+        Some(number) => Err(Fault::Refused(number)),
+        None => Ok(answer as usize),
     }
-    if e.kind == DELETE {
-        return foldplover_delete(sheet, used, e.which, e.place, work);
-    }
-    foldplover_replace(sheet, used, e.which, e.place, record, work)
 }
 
-// An edit done on the pair sheet; the number that it is answered with.
-fn edited(sheet: &mut [u8], used: usize, e: Edit) -> u32 {
+// A fresh move of the lists.
+fn moved(lists: &Lists, sheet: &mut [u8]) -> Outcome {
     let mut work = [DIRT; WORK_BYTES];
-    let answer = call_edit(sheet, used, e, &mut work);
-    if is_zero(&work) {
-        return answer;
+    let answer = foldplover_move(lists.sheet().bytes(), sheet, &mut work);
+    if !is_zero(&work) {
+        return Err(Fault::WorkLeftByMove);
     }
-    WORK_LEFT_BY_EDIT
+    outcome_of(answer)
 }
 
-// A fresh move of an order sheet; the number that it is answered with.
-fn moved(order: &[u8], n: usize, sheet: &mut [u8]) -> u32 {
-    let mut work = [DIRT; WORK_BYTES];
-    let answer = foldplover_move(part(order, 0, n), sheet, &mut work);
-    if is_zero(&work) {
-        return answer;
-    }
-    WORK_LEFT_BY_MOVE
+// What an edit of the lists is to come to: wherever there are edited lists, what a fresh move of them does.
+fn wanted(lists: &mut Lists, e: &Edit, fresh: &mut [u8]) -> Outcome {
+    lists.edit(e)?;
+    moved(lists, fresh)
 }
 
-// The number that an edit is to be answered with: a fresh move's, wherever there are edited lists.
-fn wanted(order: &[u8], e: Edit, next: &mut [u8], fresh: &mut [u8]) -> u32 {
-    if !order::has_place(order, e) {
-        return NO_PLACE;
-    }
-    if e.kind != DELETE && e.size != RECORD_BYTES {
-        return NO_RECORD;
-    }
-    let n = order::edit_order(order, e, next);
-    moved(next, n, fresh)
-}
-
-// The new bytes over the old ones, unless the move that made them was refused.
-fn take_over(answer: u32, new: &[u8], old: &mut [u8]) {
-    if REFUSAL_BASE <= answer {
-        return;
-    }
-    if new.len() <= old.len() {
-        old[..new.len()].copy_from_slice(new);
-    }
-}
-
-fn count_up(tally: &mut [u32], i: usize) {
-    if i < tally.len() {
-        tally[i] = std::num::wrapping_add_u32(tally[i], 1);
-    }
-}
-
-fn count_accepted(tally: &mut [u32], e: Edit) {
-    let from = BY_LIST + LIST_TALLIES * (e.which % 2) as usize;
-    count_up(tally, 0);
-    count_up(tally, from + (e.kind % 3) as usize);
-    if e.kind == DELETE {
-        return;
-    }
-    let record = e.record;
-    count_up(tally, from + 3 + (record[BOX_BYTES] % 2) as usize);
-}
-
-fn count_answer(tally: &mut [u32], e: Edit, answer: u32) {
-    if REFUSAL_BASE <= answer {
-        count_up(tally, (answer - REFUSAL_BASE) as usize);
-        return;
-    }
-    count_accepted(tally, e);
-}
-
-fn length_after(used: usize, answer: u32) -> usize {
-    if REFUSAL_BASE <= answer {
-        return used;
-    }
-    answer as usize
-}
-
-// One edit, and the fresh move beside it; the pair sheet's length after it, or 0 where something differs. `kept` is a copy of
-// the last fresh move that was accepted, and is lent to no call.
-fn play_edit(
-    order: &mut [u8],
-    sheet: &mut [u8],
-    kept: &mut [u8],
+// The lists as the accepted edits left them, and their pair sheet in its buffer with its length, as the calls for C take them.
+// `kept` is a copy of the last fresh move that was accepted, and is lent to no call.
+#[derive(Clone, Copy)]
+struct Run {
+    lists: Lists,
+    sheet: [u8; PAIR_BYTES],
     used: usize,
-    e: Edit,
-    tally: &mut [u32],
-) -> usize {
-    let mut next = [0u8; LISTS_BYTES];
-    let mut fresh = [DIRT; PAIR_BYTES];
-    let answer = edited(sheet, used, e);
-    let right = wanted(order, e, &mut next, &mut fresh);
-    take_over(right, &next, order);
-    take_over(right, &fresh, kept);
-    if answer != right {
-        return 0;
-    }
-    if &*sheet != &*kept {
-        return 0;
-    }
-    count_answer(tally, e, answer);
-    length_after(used, answer)
+    kept: [u8; PAIR_BYTES],
 }
 
-// The first lists moved; the pair sheet's length.
-fn begin(order: &mut [u8], sheet: &mut [u8], kept: &mut [u8]) -> usize {
-    let n = order::first_order(order);
-    let answer = moved(order, n, sheet);
-    take_over(answer, sheet, kept);
-    length_after(0, answer)
-}
+impl Run {
+    // The first lists moved.
+    fn begin() -> Result<Run, Fault> {
+        let lists = Lists::first();
+        let mut sheet = [FIRST_DIRT; PAIR_BYTES];
+        let used = moved(&lists, &mut sheet)?;
+        Ok(Run {
+            lists,
+            sheet,
+            used,
+            kept: sheet,
+        })
+    }
 
-// The edits of a run, up to the first after which something differs; how many there were before that.
-fn play_edits(
-    order: &mut [u8],
-    sheet: &mut [u8],
-    kept: &mut [u8],
-    first: usize,
-    tally: &mut [u32],
-    shape: Shape,
-) -> u32 {
-    let mut dice = shape.seed;
-    let mut used = first;
-    let mut done: u32 = 0;
-    while done < shape.edits {
-        let e = test_draws::draw_edit(&mut dice, order, shape);
-        used = play_edit(order, sheet, kept, used, e, tally);
-        if used == 0 {
-            return done;
+    // The library's call for an edit.
+    fn call(&mut self, e: &Edit, work: &mut [u8]) -> u32 {
+        let sheet = &mut self.sheet;
+        match e.change {
+            Change::Insert => foldplover_insert(
+                sheet,
+                self.used,
+                e.which,
+                e.place,
+                e.bytes(),
+                work,
+            ),
+            Change::Delete => foldplover_delete(sheet, self.used, e.which, e.place, work),
+            Change::Replace => foldplover_replace(
+                sheet,
+                self.used,
+                e.which,
+                e.place,
+                e.bytes(),
+                work,
+            ),
         }
-        done += 1;
     }
-    done
-}
 
-fn print_count(rt: &impl Print, n: u32) -> io::Result<()> {
-    print!(rt; " {n}")
-}
-
-// The counts of the tally from `from` up to `to`.
-fn print_counts(rt: &impl Print, tally: &[u32], from: usize, to: usize) -> io::Result<()> {
-    let mut i = from;
-    while i < to {
-        if i < tally.len() {
-            print_count(rt, tally[i])?;
+    // An edit done on the pair sheet.
+    fn edited(&mut self, e: &Edit) -> Outcome {
+        let mut work = [DIRT; WORK_BYTES];
+        let answer = self.call(e, &mut work);
+        if !is_zero(&work) {
+            return Err(Fault::WorkLeftByEdit);
         }
-        i += 1;
+        outcome_of(answer)
     }
-    Ok(())
-}
 
-// Whether the run came to its end without a difference.
-fn print_end(rt: &impl Print, shape: Shape, done: u32) -> io::Result<()> {
-    print_count(rt, done)?;
-    if done < shape.edits {
-        return print_text(rt, b" edits, then one that differs");
+    // One edit, and the fresh move beside it; what both came to, or none where something differs.
+    fn play_edit(&mut self, e: &Edit) -> Option<Outcome> {
+        let mut lists = self.lists;
+        let mut fresh = [DIRT; PAIR_BYTES];
+        let outcome = self.edited(e);
+        let right = wanted(&mut lists, e, &mut fresh);
+        if right.is_ok() {
+            self.lists = lists;
+            self.kept = fresh;
+        }
+        if outcome != right || self.sheet.as_slice() != self.kept.as_slice() {
+            return None;
+        }
+        if let Ok(n) = outcome {
+            self.used = n;
+        }
+        Some(outcome)
     }
-    print_text(rt, b" edits, 0 differ")
+
+    // The edits of a run, up to the first after which something differs; how many there were before that.
+    fn play_edits(&mut self, seed: u32, shape: Shape, tally: &mut Tally) -> u32 {
+        let mut draws = Draws::new(seed, shape);
+        for done in 0..shape.edits {
+            let e = draws.edit(&self.lists);
+            let Some(outcome) = self.play_edit(&e) else {
+                return done;
+            };
+            tally.add(&e, outcome);
+        }
+        shape.edits
+    }
 }
 
-fn print_run(rt: &impl Print, shape: Shape, tally: &[u32], done: u32) -> io::Result<()> {
-    print_text(rt, b"seed")?;
-    print_count(rt, shape.seed)?;
-    print_text(rt, b":")?;
-    print_end(rt, shape, done)?;
-    print_text(rt, b"; accepted, refused with 1 to 9:")?;
-    print_counts(rt, tally, 0, BY_LIST)?;
-    print_text(
-        rt,
-        b"; inserts, deletes, replaces, denies and allows put in: A",
-    )?;
-    print_counts(rt, tally, BY_LIST, BY_LIST + LIST_TALLIES)?;
-    print_text(rt, b", B")?;
-    print_counts(rt, tally, BY_LIST + LIST_TALLIES, TALLIES)?;
-    print_text(rt, b"\n")
-}
-
-fn play(rt: &impl Print, shape: Shape) -> io::Result<()> {
-    let mut order = [0u8; LISTS_BYTES];
-    let mut sheet = [FIRST_DIRT; PAIR_BYTES];
-    let mut kept = [0u8; PAIR_BYTES];
-    let mut tally = [0u32; TALLIES];
-    let first = begin(&mut order, &mut sheet, &mut kept);
-    let done = play_edits(&mut order, &mut sheet, &mut kept, first, &mut tally, shape);
-    print_run(rt, shape, &tally, done)
-}
-
-// Small ranges in one of two fields: many cuts.
-fn two_fields(rt: &impl Print, seed: u32) -> io::Result<()> {
-    let shape = Shape {
-        seed,
-        edits: 1500,
-        inserts: 7,
-        deletes: 4,
-        own: 4,
-        allows: 11,
-        bad: 2,
-        full: 12,
-        fields: 2,
-        narrow: 0,
-        span: 400,
-        ends: 0,
+fn play(rt: &impl Print, seed: u32, shape: Shape) -> io::Result<()> {
+    let mut tally = Tally::default();
+    let done = match Run::begin() {
+        Ok(mut run) => run.play_edits(seed, shape, &mut tally),
+        Err(_) => 0,
     };
-    play(rt, shape)
-}
-
-// Nearly only allows, and a deny of everything behind them: two fields are enough for too many pieces.
-fn strips(rt: &impl Print, seed: u32) -> io::Result<()> {
-    let shape = Shape {
-        seed,
-        edits: 3000,
-        inserts: 8,
-        deletes: 3,
-        own: 4,
-        allows: 16,
-        bad: 1,
-        full: 1,
-        fields: 2,
-        narrow: 1,
-        span: 20000,
-        ends: 0,
+    let end = if done < shape.edits {
+        "then one that differs"
+    } else {
+        "0 differ"
     };
-    play(rt, shape)
-}
-
-fn five_fields(rt: &impl Print, seed: u32) -> io::Result<()> {
-    let shape = Shape {
-        seed,
-        edits: 1500,
-        inserts: 7,
-        deletes: 4,
-        own: 4,
-        allows: 10,
-        bad: 2,
-        full: 8,
-        fields: 5,
-        narrow: 3,
-        span: 200,
-        ends: 1,
-    };
-    play(rt, shape)
-}
-
-// Mostly inserts of rules that cut little, up to the limits of both lists.
-fn growth(rt: &impl Print, seed: u32) -> io::Result<()> {
-    let shape = Shape {
-        seed,
-        edits: 1500,
-        inserts: 10,
-        deletes: 2,
-        own: 12,
-        allows: 1,
-        bad: 1,
-        full: 4,
-        fields: 2,
-        narrow: 7,
-        span: 5000,
-        ends: 0,
-    };
-    play(rt, shape)
-}
-
-// Short lists and many bad records; the last rule is often taken out, replaced or followed by another.
-fn rulesRefusal(rt: &impl Print, seed: u32) -> io::Result<()> {
-    let shape = Shape {
-        seed,
-        edits: 1500,
-        inserts: 5,
-        deletes: 5,
-        own: 8,
-        allows: 8,
-        bad: 16,
-        full: 8,
-        fields: 3,
-        narrow: 3,
-        span: 50,
-        ends: 3,
-    };
-    play(rt, shape)
+    println!(rt; "seed {seed}: {done} edits, {end}; {tally}")
 }
 
 fn main(rt: HostRuntime) -> io::Result<()> {
-    two_fields(&rt, 1)?;
-    two_fields(&rt, 2)?;
-    strips(&rt, 6)?;
-    strips(&rt, 8)?;
-    five_fields(&rt, 11)?;
-    five_fields(&rt, 12)?;
-    growth(&rt, 21)?;
-    growth(&rt, 22)?;
-    rulesRefusal(&rt, 31)?;
-    rulesRefusal(&rt, 32)
+    for (seed, shape) in RUNS {
+        play(&rt, seed, shape)?;
+    }
+    Ok(())
 }

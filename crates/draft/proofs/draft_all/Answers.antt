@@ -6,21 +6,7 @@ use Prim.Native.Nat.{ℕ, ◌-◌}
 use lib.ListN.{length, take, drop}
 use Rattle.lists.proofs.Parts.{tail_whole}
 use Rattle.policy.specs.Fields.{count_size}
-use Rattle.draft.proofs.Turns.{all_ready}
 use Rattle.draft.proofs.draft_all.Goals as goal
-
-pub slice_bounds-draft_groups-count : goal.slice_bounds-draft_groups-count
-slice_bounds-draft_groups-count c = omega (arith, c.requires.records)
-
-pub slice_bounds-draft_groups-start : goal.slice_bounds-draft_groups-start
-slice_bounds-draft_groups-start c = omega (arith, c.requires.records)
-
-pub draft_groups-requires : goal.draft_groups-requires
-draft_groups-requires c =
-    let list : List ℕ = c.args.s.now in
-    let rules : take (length list - count_size) (drop count_size list) ≡ drop count_size list =
-    tail_whole list count_size (omega (arith, c.requires.records)) in
-    rw rules (all_ready c.requires)
 
 pub returns : goal.returns
 returns c =

@@ -13,8 +13,8 @@ returns-in_err-one c =
     let refused = err_from_is_err_and c.from_residual.result c.from_residual.ensures.1 in
     rw (refused.1, refused.2) (going_over c.requires c.loop-i.invariant (omega arith) c.in_err-one.ensures)
 
-pub overflow_add-count : goal.overflow_add-count
-overflow_add-count c =
+pub overflow_add-done : goal.overflow_add-done
+overflow_add-done c =
     let k = going_count c.requires c.loop-i.invariant (omega arith) c.in_ok-one.ensures in
     omega (arith, k, c.loop-i.invariant.few, c.loop-i.invariant.up_to, c.requires.gate)
 
