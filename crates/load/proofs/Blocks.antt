@@ -1,11 +1,14 @@
 -- Blocks of packets added one after another. Assumes nothing.
-use Rattle.std.proofs.Common.{◌≡◌, ℕ, ◌+◌, ◌-◌, ◌*◌, ◌%◌, ◌<◌, ◌≤◌, Bool, true, false, eqb, leb, List, [], ◌∷◌, ◌++◌, length, drop, sym, refl, ap, ◌∙◌, subst, arith, eq-eqb, ne_eqb, le-leb, leb-false}
+use Rattle.std.proofs.Common.{◌≡◌, ℕ, ◌+◌, ◌/◌, ◌%◌, Some, None, ◌<◌, ◌≤◌, Bool, true, false, eqb, leb, List, [], ◌∷◌, ◌++◌, length, sym, refl, ap, ◌∙◌, subst, arith, eq-eqb, ne_eqb, le-leb, leb-false}
 use borrow.Author.Tests.{lt-leb}
+use Rattle.std.specs.Slice.Iter.{chunks_exact_rest, chunks_exact_size, chunks_exact_steps}
+use Rattle.std.specs.declared.slice.ChunksExact.{ChunksExact}
+use denote.Ref.{Bor}
 use Rattle.policy.specs.Ranges.{Packet}
 use Rattle.policy.specs.Move.{Pair}
 use Rattle.policy.specs.Refusals.{accepted, refused, test, and_then}
 use Rattle.wire.specs.Records.{each_in}
-use Rattle.wire.proofs.Items.{items_count, items_turn}
+use Rattle.wire.proofs.Items.{items_count}
 use Rattle.load.specs.Load.{Load, sum_of, forwarded_by, load_of, plus}
 use Rattle.load.specs.Packets.{packet_size, packet_in, whole_packets, packets_from, packets_in, packets_most, added_to}
 use Rattle.load.specs.Steps.{Bounded}
@@ -21,40 +24,45 @@ bounded_plus t u x y h = record {
   forwarded = omega (arith, x.forwarded, y.forwarded);
 }
 
--- A loop over n packets: what is left of them from a byte on, and the load so far.
-module _ (q : Pair) (s : List ℕ) (start : Load) (n : ℕ) where
-  pub record Left (t : Load) (at left : ℕ) : Type 0 where
-    pub inside : at + packet_size * left ≤ length s
-    pub same : plus t (load_of q (packets_from left (drop at s))) ≡ plus start (load_of q (packets_from n s))
+one_packet : (s : List ℕ) → length s ≡ packet_size → packets_in s ≡ packet_in s ∷ []
+unfolding each_in
+one_packet s l = let n : length s / packet_size ≡ 1 = rw l refl in ap (λ (k : ℕ). packets_from k s) n
+
+-- A loop over the packets of a block: those that are left, and the load so far.
+module _ (q : Pair) (start : Load) (block : List ℕ) where
+  pub record Left (t : Load) (packets : ChunksExact ℕ) : Type 0 where
+    pub size : chunks_exact_size packets ≡ packet_size
+    pub same : plus t (load_of q (packets_in (chunks_exact_rest packets))) ≡ plus start (load_of q (packets_in block))
     pub bounded : Bounded t
-    pub few : t.packets + left ≤ packets_most
+    pub few : t.packets + whole_packets (chunks_exact_rest packets) ≤ packets_most
 
-  pub left_all : packet_size * n ≤ length s → Bounded start → start.packets + n ≤ packets_most → Left start 0 n
-  left_all h b k = record { inside = omega arith; same = refl; bounded = b; few = k }
-
-  module _ (t : Load) (at left : ℕ) (is : Left t at left) where
-    pub packet_there : 0 < left → at + packet_size ≤ length s
-    packet_there h = omega (arith, is.inside)
-
-    pub left_next : 0 < left → (p : Packet) (one sum : Load) → p ≡ packet_in (drop at s) → one ≡ load_of q (p ∷ []) → Bounded one → sum ≡ plus t one → Left sum (at + packet_size) (left - 1)
-    unfolding each_in plus load_of
-    left_next h packet one sum is-packet one-is b k =
-        let e : one ≡ load_of q (packet_in (drop at s) ∷ []) = one-is ∙ ap (λ (p : Packet). load_of q (p ∷ [])) is-packet in
-        let p : one.packets ≡ 1 = ap (λ (u : Load). u.packets) e in
-        let f = items_turn packet_size packet_in s at left h in
-        let r = load_first q t (packet_in (drop at s)) (packets_from (left - 1) (drop (at + packet_size) s)) in
-        subst (λ (u : Load). Left u (at + packet_size) (left - 1)) (sym k)
+  module _ {t : Load} {packets : ChunksExact ℕ} (is : Left t packets) (next : ChunksExact ℕ) where
+    pub left_next : (bytes : Bor (List ℕ)) → chunks_exact_steps packets (Some bytes) next → {p : Packet} {one sum : Load} → p ≡ packet_in bytes.now
+        → one ≡ load_of q (p ∷ []) → Bounded one → sum ≡ plus t one → Left sum next
+    unfolding plus load_of
+    left_next bytes h {p = p} {one = one} {sum = sum} is-packet one-is b k =
+        let x : List ℕ = bytes.now in
+        let rest : List ℕ = chunks_exact_rest next in
+        let l : length x ≡ packet_size = h.1.1 ∙ is.size in
+        let m : length x % packet_size ≡ 0 = rw l refl in
+        let n : length x / packet_size ≡ 1 = rw l refl in
+        let split : packets_in (chunks_exact_rest packets) ≡ packet_in x ∷ packets_in rest =
+        ap packets_in h.1.0 ∙ (packets-append x rest m ∙ ap (λ (ps : List Packet). ps ++ packets_in rest) (one_packet x l)) in
+        let w : whole_packets (chunks_exact_rest packets) ≡ length x / packet_size + whole_packets rest = ap whole_packets h.1.0 ∙ whole_both x rest m in
+        let e : one ≡ load_of q (packet_in x ∷ []) = one-is ∙ ap (λ (y : Packet). load_of q (y ∷ [])) is-packet in
+        let c : one.packets ≡ 1 = ap (λ (u : Load). u.packets) e in
+        subst (λ (u : Load). Left u next) (sym k)
         (record {
-          inside = omega (arith, is.inside);
-          same = ap (λ (u : Load). plus (plus t u) (load_of q (packets_from (left - 1) (drop (at + packet_size) s)))) e ∙ (r ∙ (ap (λ (l : List Packet). plus t (load_of q l)) (sym f) ∙ is.same));
-          bounded = bounded_plus t one is.bounded b (omega (arith, p, is.few));
-          few = omega (arith, p, is.few);
+          size = h.0 ∙ is.size;
+          same = ap (λ (u : Load). plus (plus t u) (load_of q (packets_in rest))) e ∙ (load_first q t (packet_in x) (packets_in rest) ∙ (ap (λ (ps : List Packet). plus t (load_of q ps)) (sym split) ∙ is.same));
+          bounded = bounded_plus t one is.bounded b (omega (arith, c, w, n, is.few));
+          few = omega (arith, c, w, n, is.few);
         })
 
-    pub left_none : left ≤ 0 → (t ≡ plus start (load_of q (packets_from n s))) × Bounded t
+    pub left_none : chunks_exact_steps packets None next → (t ≡ plus start (load_of q (packets_in block))) × Bounded t
     unfolding each_in load_of sum_of forwarded_by
     left_none h =
-        let z : left ≡ 0 = omega arith in
+        let z : whole_packets (chunks_exact_rest packets) ≡ 0 = omega (arith, h.1.0, is.size) in
         (sym (plus_none t) ∙ (rw z at is.same), is.bounded)
 
 module _ (q : Pair) (t : Load) (block rest : List ℕ) (whole : length block % packet_size ≡ 0) where

@@ -1,15 +1,12 @@
 -- What the inner parts of a report answer: the code's loads and gains as mathematics has them. Assumes nothing.
 use Rattle.std.specs.Prelude.{ℕ, ◌+◌, ◌*◌, ◌≤◌}
 use Rattle.policy.specs.Fields.{limits}
-use Rattle.policy.specs.Refusals.{Outcome, accepted, refused, number_of}
 use Rattle.origins.specs.declared.Trace.{Trace}
 use Rattle.origins.specs.declared.Trace.TheVariants.{Gate, Own, Nowhere}
 use Rattle.load.specs.Load.{Load, load, Gain}
 use Rattle.load.specs.Packets.{packets_most}
 use Rattle.load.specs.declared.Load.{Load as LoadValue}
 use Rattle.load.specs.declared.Gain.{Gain as GainValue}
-use Rattle.load.specs.declared.Added.{Added}
-use Rattle.load.specs.declared.Added.TheVariants.{Sum, Refused}
 
 abbrev pub load_value : LoadValue → Load
 load_value t = load t.packets t.before t.after t.forwarded
@@ -32,12 +29,3 @@ pub record Bounded (t : Load) : Type 0 where
   pub before : t.before ≤ tries_most * t.packets
   pub after : t.after ≤ tries_most * t.packets
   pub forwarded : t.forwarded ≤ t.packets
-
--- A load with a block added, or the refusal.
-unfoldable pub added_heard : Added → Outcome Load
-added_heard (Sum t) = accepted (load_value t)
-added_heard (Refused f) = refused (number_of f)
-
-unfoldable pub OfSum : (Load → Type 0) → Added → Type 0
-OfSum says (Sum t) = says (load_value t)
-OfSum says (Refused f) = Unit {0}

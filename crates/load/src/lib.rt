@@ -1,19 +1,20 @@
 // The load of packets on a pair sheet that passes check: one packet, a block of them, the gain; and the hits between two readings.
 #![tactic(auto)]
 
-ghost use Rattle.std.specs.Prelude.{◌≡◌, ◌+◌, ◌*◌, ◌<◌, ◌≤◌, [], ◌∷◌, length, drop};
+ghost use Rattle.std.specs.Prelude.{◌≡◌, ◌+◌, ◌<◌, ◌≤◌, [], ◌∷◌, length, IfOk};
 ghost use Rattle.policy.specs.Fields.{limits};
+ghost use Rattle.policy.specs.Refusals.{heard};
 ghost use Rattle.policy.specs.Values.{packet_of};
 ghost use Rattle.sheet.specs.Steps.{pair_at};
-ghost use Rattle.origins.specs.Steps.{Checked, TraceSmall};
-ghost use Rattle.rows.specs.Steps.{Tabled};
+ghost use Rattle.origins.specs.Steps.{TraceSmall};
 ghost use Rattle.load.specs.Load.{load_of, no_load, plus, common, gain_of, hits_between};
-ghost use Rattle.load.specs.Packets.{packet_size, packet_in, packets_from, packets_most, added_to};
-ghost use Rattle.load.specs.Steps.{load_value, gain_value, trace_load, Bounded, added_heard, OfSum};
+ghost use Rattle.load.specs.Packets.{packet_size, packet_in, whole_packets, packets_in, packets_most, added_to};
+ghost use Rattle.load.specs.Steps.{load_value, gain_value, trace_load, Bounded};
 
-use origins::Trace;
+use origins::{Trace, trace_packet};
 use policy::{BOX_BYTES, FIELDS, Packet, Refusal, WIDTH};
-use sheet::PairLayout;
+use rows::TabledSheet;
+use std::ops::Add;
 
 // A packet has half a box's bytes: one number for each field.
 pub const PACKET_BYTES: usize = BOX_BYTES / 2;
@@ -35,13 +36,6 @@ pub struct Gain {
     pub denominator: u64,
 }
 
-// A load with a block of packets added, or the refusal.
-#[derive(Clone, Copy)]
-pub enum Added {
-    Sum(Load),
-    Refused(Refusal),
-}
-
 impl Load {
     // The load of no packets.
     pub fn none() -> Load
@@ -52,19 +46,6 @@ impl Load {
             before: 0,
             after: 0,
             forwarded: 0,
-        }
-    }
-
-    // The two together: neither is of more packets than a report has.
-    fn plus(self, t: Load) -> Load
-        requires { Bounded (load_value self) × Bounded (load_value t) }
-        ensures { load_value result ≡ plus (load_value self) (load_value t) }
-    {
-        Load {
-            packets: self.packets + t.packets,
-            before: self.before + t.before,
-            after: self.after + t.after,
-            forwarded: self.forwarded + t.forwarded,
         }
     }
 
@@ -88,6 +69,24 @@ impl Load {
     }
 }
 
+// Two loads together: neither is of more packets than a report has.
+impl Add for Load {
+    type Output = Load;
+
+    ghost can_add = { λ t u. Bounded (load_value t) × Bounded (load_value u) };
+
+    ghost add_gives = { λ t u r. load_value r ≡ plus (load_value t) (load_value u) };
+
+    fn add(self, other: Load) -> Load {
+        Load {
+            packets: self.packets + other.packets,
+            before: self.before + other.before,
+            after: self.after + other.after,
+            forwarded: self.forwarded + other.forwarded,
+        }
+    }
+}
+
 fn common_divisor(a: u64, b: u64) -> u64
     ensures { result ≡ common a b }
 {
@@ -101,19 +100,17 @@ fn common_divisor(a: u64, b: u64) -> u64
     x
 }
 
-// The packet whose bytes begin at `at`.
-fn packet_at(s: &[u8], at: usize) -> Packet
-    requires { at + packet_size ≤ length s.now }
-    ensures { packet_of result ≡ packet_in (drop at s.now) }
+// The packet that the bytes begin with.
+fn packet_at(s: &[u8]) -> Packet
+    requires { packet_size ≤ length s.now }
+    ensures { packet_of result ≡ packet_in s.now }
 {
     let mut values = [0u32; FIELDS];
-    let mut p = at;
-    let mut k: usize = 0;
-    while k < FIELDS {
-        let w = WIDTH[k];
-        values[k] = wire::number_at(s, p, w);
-        p += w;
-        k += 1;
+    let mut at: usize = 0;
+    for k in 0..FIELDS {
+        let width = WIDTH[k];
+        values[k] = wire::number_at(s, at, width);
+        at += width;
     }
     Packet { values }
 }
@@ -162,55 +159,44 @@ fn load_traced(t: Trace) -> Load
     }
 }
 
-fn load_one(p: Packet, sheet: &[u8], layout: PairLayout, table: &[u32]) -> Load
-    requires { Checked sheet.now layout × Tabled sheet.now layout table.now }
-    ensures { (load_value result ≡ load_of (pair_at layout sheet.now) (packet_of p ∷ [])) × Bounded (load_value result) }
+fn load_one(sheet: TabledSheet<'_>, p: Packet) -> Load
+    ensures { (load_value result ≡ load_of (pair_at sheet.entry.sheet.layout sheet.entry.sheet.bytes.now) (packet_of p ∷ [])) × Bounded (load_value result) }
 {
-    load_traced(rows::trace_row(p, sheet, layout, table))
+    load_traced(trace_packet(sheet, p))
 }
 
-// The load of n packets more.
-fn add_packets(
-    t: Load,
-    packets: &[u8],
-    n: usize,
-    sheet: &[u8],
-    layout: PairLayout,
-    table: &[u32],
-) -> Load
-    requires { Checked sheet.now layout × Tabled sheet.now layout table.now × (packet_size * n ≤ length packets.now) × Bounded (load_value t) × (t.packets + n ≤ packets_most) }
-    ensures { (load_value result ≡ plus (load_value t) (load_of (pair_at layout sheet.now) (packets_from n packets.now))) × Bounded (load_value result) }
+// The load of a block of whole packets more.
+fn add_packets(t: Load, block: &[u8], sheet: TabledSheet<'_>) -> Load
+    requires { Bounded (load_value t) × (t.packets + whole_packets block.now ≤ packets_most) }
+    ensures { (load_value result ≡ plus (load_value t) (load_of (pair_at sheet.entry.sheet.layout sheet.entry.sheet.bytes.now) (packets_in block.now))) × Bounded (load_value result) }
 {
     let mut sum = t;
-    let mut at: usize = 0;
-    let mut left = n;
-    while 0 < left {
-        sum = sum.plus(load_one(packet_at(packets, at), sheet, layout, table));
-        at += PACKET_BYTES;
-        left -= 1;
+    for bytes in block.chunks_exact(PACKET_BYTES) {
+        sum = sum + load_one(sheet, packet_at(bytes));
     }
     sum
 }
 
 // A block of packets added, each traced in the sheet's table: 2 where the whole ones are too many with those before, else 3 where the
 // last one is broken.
-pub fn add_block(t: Load, block: &[u8], sheet: &[u8], layout: PairLayout, table: &[u32]) -> Added
-    requires { Checked sheet.now layout × Tabled sheet.now layout table.now × Bounded (load_value t) }
-    ensures { (added_heard result ≡ added_to (pair_at layout sheet.now) (load_value t) block.now) × OfSum Bounded result }
+pub fn add_block(t: Load, block: &[u8], sheet: TabledSheet<'_>) -> Result<Load, Refusal>
+    requires { Bounded (load_value t) }
+    ensures sum { heard load_value result ≡ added_to (pair_at sheet.entry.sheet.layout sheet.entry.sheet.bytes.now) (load_value t) block.now }
+    ensures bounded { IfOk result (λ u. Bounded (load_value u)) }
 {
     let whole = block.len() / PACKET_BYTES;
     if PACKETS_MOST as u64 - t.packets < whole as u64 {
-        return Added::Refused(Refusal::CountOutside);
+        return Err(Refusal::CountOutside);
     }
     if block.len() % PACKET_BYTES != 0 {
-        return Added::Refused(Refusal::LengthWrong);
+        return Err(Refusal::LengthWrong);
     }
-    Added::Sum(add_packets(t, block, whole, sheet, layout, table))
+    Ok(add_packets(t, block, sheet))
 }
 
 // Counters roll over on purpose.
 pub fn hits_between(earlier: u32, later: u32) -> u32
     ensures { result ≡ hits_between earlier later }
 {
-    std::num::wrapping_sub_u32(later, earlier)
+    later.wrapping_sub(earlier)
 }

@@ -1,4 +1,5 @@
 -- The call: its two tests, check's refusals, and a trace told; and two outcomes of one call are equal. Assumes nothing.
+use Rattle.std.specs.Prelude.{Ok, Err}
 use mathlib.Core.Path.{◌≡◌, refl, sym, ◌∙◌}
 use mathlib.Core.List.{List}
 use mathlib.Core.Bool.{true, false}
@@ -7,74 +8,51 @@ use native.Mathlib.Omega.{arith}
 use lib.ListN.{length}
 use Rattle.policy.specs.Fields.{limits, work_size}
 use Rattle.policy.specs.Ranges.{Packet}
-use Rattle.policy.specs.Refusals.{refusal_base, accepted}
-use Rattle.policy.specs.Origins.{HasOrigin, place_of}
-use Rattle.policy.specs.declared.Answer.{Answer}
-use Rattle.policy.specs.declared.Answer.TheVariants.{Refused}
+use Rattle.policy.specs.Refusals.{Answer, refusal_base, accepted, refused, number_of}
+use Rattle.policy.specs.Move.{Pair}
 use Rattle.policy.specs.declared.Refusal.{Refusal}
 use Rattle.policy.specs.declared.Refusal.TheVariants.{BufferShort}
 use Rattle.policy.proofs.Answers.{said_once, test_accepted}
 use Rattle.wire.specs.Buffers.{zeroed, written}
-use Rattle.sheet.specs.Steps.{pair_at, pair_heard}
 use Rattle.sheet.specs.declared.PairLayout.{PairLayout}
-use Rattle.sheet.specs.declared.PairParts.TheVariants as P
-use Rattle.sheet.proofs.Outcomes.{readable, through}
+use Rattle.sheet.proofs.Outcomes.{through}
 use Rattle.promises.specs.Calls.{work_after, both_lent, check_of}
 use Rattle.promises.proofs.Calls.{room_short, work_short, both_there}
 use Rattle.checking.specs.Steps.{CheckRead}
-use Rattle.checking.proofs.Checking.{check_laid}
 use Rattle.filter.specs.Lookup.{lookup_number}
 use Rattle.origins.specs.Origin.{Decision, origin_of, origin_size, origin_call, value_of, Origins}
-use Rattle.origins.specs.Steps.{Checked, trace_heard, GateTraced, Traced, TraceSmall, TraceTold}
+use Rattle.origins.specs.Steps.{Checked, Traced, TraceTold}
 use Rattle.origins.specs.declared.Trace.{Trace}
-use Rattle.origins.specs.declared.Trace.TheVariants.{Gate, Own, Nowhere}
-use Rattle.filter.proofs.Lists.{found_small}
-use Rattle.origins.proofs.Deciding.{good, gate_clean, decided}
+use Rattle.origins.proofs.Deciding.{decided}
 
 -- a sheet whose layout check answers
-pub passes_check : {s : List ℕ} {l : PairLayout} → CheckRead s (P.Parts l) → Checked s l
-unfolding pair_heard
-passes_check x = record { checks = sym x.says; laid = check_laid x }
-
--- a trace's numbers are those of a place of the cell list
-pub traced_small : {s : List ℕ} {l : PairLayout} → Checked s l → (p : Packet) (t : Trace) → Traced p (pair_at l s) t → TraceSmall t
-unfolding trace_heard GateTraced TraceSmall HasOrigin place_of
-traced_small {s} {l} c p (Gate rule number place) x =
-    let d = decided s (pair_at l s) c.checks p _ (sym x.says) in
-    let g = readable limits.gate _ (good s (pair_at l s) c.checks).gate in
-    (omega (arith, d.has.0, g.many), omega (arith, d.place, d.back), d.place)
-traced_small {s} {l} c p (Own passed rule place action) x =
-    let d = decided s (pair_at l s) c.checks p _ (sym x.says) in
-    let g = readable limits.own _ (good s (pair_at l s) c.checks).own in
-    let a = readable limits.gate _ (good s (pair_at l s) c.checks).gate in
-    let f = found_small p (pair_at l s).order.gate passed 1 (gate_clean s (pair_at l s) c.checks).0 x.gate in
-    (omega (arith, f.0, a.many), omega (arith, d.has, g.many), d.place, d.action)
-traced_small c p Nowhere x = tt
+pub passes_check : {s : List ℕ} {l : PairLayout} → CheckRead s (Ok l) → Checked s l
+passes_check x = record { checks = sym x.says; laid = x.laid }
 
 module _ (p : Packet) (s ns w : List ℕ) where
-  short : both_lent origin_size ns w ≡ false → Origins p s ns w (Refused BufferShort) ns w
+  short : both_lent origin_size ns w ≡ false → Origins p s ns w (Err BufferShort) ns w
   unfolding origin_call value_of written work_after
   short e = record { answer = rw e refl; numbers = rw e refl; work = rw e refl }
 
-  pub numbers_short : length ns < origin_size → Origins p s ns w (Refused BufferShort) ns w
+  pub numbers_short : length ns < origin_size → Origins p s ns w (Err BufferShort) ns w
   numbers_short h = short (room_short origin_size ns _ h)
 
-  pub work_too_short : origin_size ≤ length ns → length w < work_size → Origins p s ns w (Refused BufferShort) ns w
+  pub work_too_short : origin_size ≤ length ns → length w < work_size → Origins p s ns w (Err BufferShort) ns w
   work_too_short h k = short (work_short origin_size work_size ns w h k)
 
   module _ (h : origin_size ≤ length ns) (k : work_size ≤ length w) {w' : List ℕ} (clear : w' ≡ zeroed 0 work_size w) where
     lent : both_lent origin_size ns w ≡ true
     lent = both_there origin_size work_size ns w h k
 
-    pub origin_refused : {f : Refusal} → CheckRead s (P.Refused f) → Origins p s ns w (Refused f) ns w'
-    unfolding origin_call origin_of value_of written work_after pair_heard
-    origin_refused x = record { answer = rw (lent, ← x.says) refl; numbers = rw (lent, ← x.says) refl; work = rw lent clear }
+    pub origin_refused : {f : Refusal} → check_of limits s ≡ refused (number_of f) → Origins p s ns w (Err f) ns w'
+    unfolding origin_call origin_of value_of written work_after
+    origin_refused x = record { answer = rw (lent, x) refl; numbers = rw (lent, x) refl; work = rw lent clear }
 
-    pub origin_told : {l : PairLayout} → Checked s l → {t : Trace} → Traced p (pair_at l s) t → {r : Answer} {ns' : List ℕ} → TraceTold t ns r ns' → Origins p s ns w r ns' w'
+    pub origin_told : {q : Pair} → check_of limits s ≡ accepted q → {t : Trace} → Traced p q t → {r : Answer} {ns' : List ℕ} → TraceTold t ns r ns' → Origins p s ns w r ns' w'
     unfolding origin_call origin_of work_after
-    origin_told c x y = record {
-      answer = rw (lent, c.checks, ← x.says) y.answer;
-      numbers = rw (lent, c.checks, ← x.says) y.numbers;
+    origin_told checks x y = record {
+      answer = rw (lent, checks, ← x.says) y.answer;
+      numbers = rw (lent, checks, ← x.says) y.numbers;
       work = rw lent clear;
     }
 

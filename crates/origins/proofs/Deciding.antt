@@ -10,8 +10,8 @@ use borrow.Author.Tests.{ltb-true, ltb-false}
 use Rattle.lists.specs.Lists.{Each, every}
 use Rattle.lists.proofs.Lists.{each_every}
 use Rattle.policy.specs.Fields.{limits, highest}
-use Rattle.policy.specs.Ranges.{Packet, Whole, proper}
-use Rattle.policy.specs.Rules.{rule, denies, complete, Found, found, nothing, first_from, first, says_drop, in_limits}
+use Rattle.policy.specs.Ranges.{Packet, proper}
+use Rattle.policy.specs.Rules.{rule, Proper, denies, complete, Found, found, nothing, first_from, first, says_drop, in_limits}
 use Rattle.policy.specs.Refusals.{accepted, refused, rules_refusal}
 use Rattle.policy.specs.Move.{Pair, together, cell_list}
 use Rattle.policy.specs.Demands.{group_at}
@@ -19,7 +19,7 @@ use Rattle.policy.specs.Origins.{Origin, gate_rule, own_rule, origin_at, place_o
 use Rattle.policy.specs.Steps.{box_number, regions}
 use Rattle.policy.proofs.Refused.{list_refusal}
 use Rattle.policy.proofs.Edits.{list_accepted}
-use Rattle.policy.proofs.Moves.{proper_whole, above_from, nothing_above}
+use Rattle.policy.proofs.Moves.{above_from, nothing_above}
 use Rattle.policy.proofs.Places.{place_back}
 use Rattle.policy.proofs.Origins.{first_found, first_nothing, own_decides, box_there, box_decides}
 use Rattle.sheet.proofs.Outcomes.{readable}
@@ -30,6 +30,7 @@ use Rattle.promises.proofs.Demands.{limits_small, CheckAccepted, check_accepted}
 use Rattle.filter.specs.Lookup.{hit}
 use Rattle.filter.proofs.Lists.{found_small}
 use Rattle.origins.specs.Origin.{Decision, decision}
+use Rattle.origins.proofs.Searches.{rules_proper}
 
 -- A decision by its origin: the place is the origin's.
 abbrev pub decided_at : Pair → Origin → ℕ → Decision
@@ -55,11 +56,17 @@ module _ (s : List ℕ) (q : Pair) (checks : check_of limits s ≡ accepted q) w
   pub own_clean : (rules_refusal q.order.own ≡ 0) × (complete q.order.own ≡ true)
   own_clean = list_accepted limits.own q.order.own good.own
 
-  -- no box is empty
-  pub group_whole : (j : ℕ) → Each Whole (group_at q j)
+  -- every box is proper
+  pub gate_proper : Each Proper (regions q.order.gate)
+  gate_proper = rules_proper q.order.gate gate_clean.0
+
+  pub own_proper : Each Proper (regions q.order.own)
+  own_proper = rules_proper q.order.own own_clean.0
+
+  pub group_proper : (j : ℕ) → Each Proper (group_at q j)
   unfolding every
-  group_whole j =
-      each_every (proper highest) Whole (proper_whole highest) (group_at q j)
+  group_proper j =
+      each_every (proper highest) Proper (λ b e. e) (group_at q j)
       (each_at ProperGroup q.groups (denies (take j q.order.gate)) [] refl good.groups.boxes)
 
   pub cell_readable : list_refusal limits.total (cell_list q) ≡ 0

@@ -1,6 +1,7 @@
-pub mod Boxes
+pub mod Searches
 pub mod Told
 pub mod Deciding
 pub mod Tracing
+pub mod Traces
 pub mod Calls
 pub mod Theorems

@@ -1,4 +1,5 @@
 -- A trace told in numbers. Assumes nothing.
+use Rattle.std.specs.Prelude.{Ok, Err}
 use mathlib.Core.Path.{◌≡◌, refl, ap, ◌∙◌}
 use mathlib.Core.List.{List, [], ◌∷◌}
 use Prim.Native.Nat.{ℕ, ◌+◌, ◌*◌, ◌≤◌, ◌<◌}
@@ -8,7 +9,6 @@ use lib.Seq.{sets}
 use Rattle.lists.proofs.Lists.{sets-parts}
 use Rattle.policy.specs.Fields.{limits}
 use Rattle.policy.specs.Refusals.{accepted}
-use Rattle.policy.specs.declared.Answer.TheVariants.{Length, Refused}
 use Rattle.policy.specs.declared.Refusal.TheVariants.{NotComplete}
 use Rattle.wire.specs.Buffers.{filled, written}
 use Rattle.filter.specs.Lookup.{lookup_number}
@@ -31,20 +31,20 @@ unfolding TraceSmall
 small_own passed rule place action e h = rw e at h
 
 module _ (ns ns' : List ℕ) (room : origin_size ≤ length ns) (rule place : ℕ) where
-  pub told_gate : (number : ℕ) → ns' ≡ sets ns 0 (0 ∷ rule ∷ number ∷ []) → TraceTold (Gate rule number place) ns (Length (2 * place)) ns'
+  pub told_gate : (number : ℕ) → ns' ≡ sets ns 0 (0 ∷ rule ∷ number ∷ []) → TraceTold (Gate rule number place) ns (Ok (2 * place)) ns'
   unfolding value_of lookup_number trace_heard written origin_numbers
   told_gate number e = record {
     answer = ap accepted (omega arith);
     numbers = e ∙ put_filled ns 0 rule number room;
   }
 
-  pub told_own : (passed action : ℕ) → ns' ≡ sets ns 0 (1 ∷ rule ∷ 0 ∷ []) → TraceTold (Own passed rule place action) ns (Length (2 * place + action)) ns'
+  pub told_own : (passed action : ℕ) → ns' ≡ sets ns 0 (1 ∷ rule ∷ 0 ∷ []) → TraceTold (Own passed rule place action) ns (Ok (2 * place + action)) ns'
   unfolding value_of lookup_number trace_heard written origin_numbers
   told_own passed action e = record {
     answer = refl;
     numbers = e ∙ put_filled ns 1 rule 0 room;
   }
 
-pub told_nowhere : (ns : List ℕ) → TraceTold Nowhere ns (Refused NotComplete) ns
+pub told_nowhere : (ns : List ℕ) → TraceTold Nowhere ns (Err NotComplete) ns
 unfolding value_of trace_heard written
 told_nowhere ns = record { answer = refl; numbers = refl }

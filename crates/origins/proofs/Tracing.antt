@@ -1,25 +1,20 @@
--- A packet traced in the bytes of a sheet that passes check: what each part of the code finds there, as the definitions have it.
--- Assumes nothing.
+-- The bytes of a sheet that passes check: where the rules and the boxes of each list lie. Assumes nothing.
 use mathlib.Core.Path.{◌≡◌, refl, ap, sym, ◌∙◌}
 use mathlib.Core.List.{List, []}
-use mathlib.Core.Bool.{Bool, true, false}
-use Prim.Native.Nat.{ℕ, zero, suc, ◌+◌, ◌*◌, ◌-◌, ◌<◌, ◌≤◌}
+use Prim.Native.Nat.{ℕ, zero, suc, ◌+◌, ◌*◌, ◌-◌, ◌^◌, ◌<◌, ◌≤◌}
 use native.Mathlib.Omega.{arith}
-use lib.ListN.{length, get_or, take, drop, length-drop}
+use lib.ListN.{length, get_or, take, drop, length-append, length-drop}
 use lib.Seq.{drop-drop, take_all}
-use borrow.Author.Tests.{eqb-true, eqb-false}
-use Rattle.lists.specs.Lists.{Each}
 use Rattle.lists.proofs.Parts.{tail_whole}
 use Rattle.policy.specs.Fields.{count_size, record_size, box_size}
-use Rattle.policy.specs.Ranges.{Region, Packet, Whole}
-use Rattle.policy.specs.Rules.{Rule, rule, is_allow, found, first, denies}
-use Rattle.policy.specs.Move.{Pair, together}
+use Rattle.policy.specs.Ranges.{Region}
+use Rattle.policy.specs.Rules.{rule, denies}
+use Rattle.policy.specs.Move.{Pair, together, denials, cell_list}
 use Rattle.policy.specs.Demands.{group_at}
-use Rattle.policy.specs.Origins.{HasOrigin, place_of}
-use Rattle.policy.specs.Steps.{box_number, regions}
+use Rattle.policy.specs.Steps.{regions}
 use Rattle.policy.proofs.Kept.{deny_counts}
-use Rattle.policy.proofs.Origins.{first_found, first_nothing}
-use Rattle.wire.specs.Records.{box_in, rule_in, rules_in, each_in}
+use Rattle.policy.proofs.Places.{denials-length}
+use Rattle.wire.specs.Records.{box_in, rule_in, each_in}
 use Rattle.wire.specs.Lists.{count_in}
 use Rattle.wire.proofs.Records.{rules_in-length, rule_in_place}
 use Rattle.sheet.specs.Pairs.{group_size, group_boxes}
@@ -28,11 +23,9 @@ use Rattle.sheet.specs.declared.PairLayout.{PairLayout}
 use Rattle.kept.specs.Steps.{run_size}
 use Rattle.kept.proofs.Runs.{boxes-cons, boxes_next, boxes_none, boxes_behind, groups_front}
 use Rattle.draft.proofs.Drafts.{rules_front}
-use Rattle.filter.proofs.Lists.{found_small}
-use Rattle.origins.specs.Steps.{Checked, trace_heard, GateTraced, Traced}
-use Rattle.origins.specs.declared.Trace.TheVariants.{Gate, Own, Nowhere}
-use Rattle.origins.proofs.Boxes.{number_within, record_regions, records_whole}
-use Rattle.origins.proofs.Deciding.{gate_clean, own_clean, group_whole, has_box, own_has, by_gate, by_own, by_nothing}
+use Rattle.origins.specs.Steps.{Checked, place_in, Denies, front_of, Holds}
+use Rattle.origins.proofs.Searches.{record_regions}
+use Rattle.origins.proofs.Deciding.{gate_proper, own_proper, group_proper}
 
 -- one of the groups in bytes, and where the next one begins
 run_next : (k : ℕ) (s : List ℕ) (count : ℕ) → count ≡ count_in (drop (run_size k s) s) → run_size (k + 1) s ≡ run_size k s + group_size count
@@ -53,114 +46,76 @@ group_at_lem (suc k) (suc n) s h =
     group_at_lem k n (drop (group_size (count_in s)) s) (omega arith)
     ∙ ap group_boxes (drop-drop (run_size k (drop (group_size (count_in s)) s)) (group_size (count_in s)) s ∙ ap (λ (m : ℕ). drop m s) (sym (run_first k s)))
 
--- The record at a place of A, and of B, lies in the sheet.
-module _ {s : List ℕ} {l : PairLayout} (c : Checked s l) {i : ℕ} where
-  pub gate_record : i < l.order.gate → count_size + record_size * i + record_size ≤ length s
-  gate_record h = omega (arith, c.laid.lists.gate_end, c.laid.lists.own_end, c.laid.lists.inside)
-
-  pub own_record : i < l.order.own → l.order.middle + count_size + record_size * i + record_size ≤ length s
-  own_record h = omega (arith, c.laid.lists.own_end, c.laid.lists.inside)
-
-module _ {s : List ℕ} {l : PairLayout} (c : Checked s l) (p : Packet) where
+-- The record at a place of A, and of B, lies in the sheet, and is the list's.
+module _ {s : List ℕ} {l : PairLayout} (c : Checked s l) where
   abbrev q : Pair
   q = pair_at l s
 
-  -- A list of the sheet whose records begin at `at`, and the first of them that has the packet.
-  module _ (n at : ℕ) (rules : List Rule) (are : rules ≡ rules_in n (drop at s)) (i : ℕ) (is : i ≡ box_number p (each_in record_size box_in n (drop at s))) where
-    number : i ≡ box_number p (regions rules)
-    number = is ∙ ap (box_number p) (sym (record_regions n (drop at s)) ∙ ap regions (sym are))
+  pub gate_length : length q.order.gate ≡ l.order.gate
+  gate_length = rules_in-length l.order.gate (drop count_size s)
 
-    count : length rules ≡ n
-    count = ap length are ∙ rules_in-length n (drop at s)
+  pub own_length : length q.order.own ≡ l.order.own
+  own_length = rules_in-length l.order.own (drop count_size (drop l.order.middle s))
 
-    in_place : i < n → get_or rules i (rule [] 0) ≡ rule_in (drop (at + record_size * i) s)
-    in_place h = ap (λ (x : List Rule). get_or x i (rule [] 0)) are ∙ (rule_in_place i n (drop at s) (rule [] 0) h ∙ ap rule_in (drop-drop (record_size * i) at s))
+  -- the places of the new cell list are those of the boxes and of the own rules
+  pub places_are : l.boxes + l.order.own ≡ length (cell_list q)
+  places_are = omega (arith, length-append (denials (together q.groups)) q.order.own, denials-length (together q.groups), own_length, c.laid.boxes_are)
 
-  -- A.
-  abbrev gate : List Rule
-  gate = q.order.gate
+  module _ {i : ℕ} where
+    pub gate_record : i < l.order.gate → count_size + record_size * i + record_size ≤ length s
+    gate_record h = omega (arith, c.laid.lists.gate_end, c.laid.lists.own_end, c.laid.lists.inside)
 
-  pub gate_whole : Each Whole (each_in record_size box_in l.order.gate (drop count_size s))
-  gate_whole = records_whole l.order.gate (drop count_size s) (gate_clean s q c.checks).0
+    pub own_record : i < l.order.own → l.order.middle + count_size + record_size * i + record_size ≤ length s
+    own_record h = omega (arith, c.laid.lists.own_end, c.laid.lists.inside)
 
-  module _ (i : ℕ) (is : i ≡ box_number p (each_in record_size box_in l.order.gate (drop count_size s))) where
-    gate_number : i ≡ box_number p (regions gate)
-    gate_number = number l.order.gate count_size gate refl i is
+    pub gate_place : i < l.order.gate → rule_in (drop (count_size + record_size * i) s) ≡ place_in q.order.gate i
+    gate_place h = sym (rule_in_place i l.order.gate (drop count_size s) (rule [] 0) h ∙ ap rule_in (drop-drop (record_size * i) count_size s))
 
-    gate_count_lem : length gate ≡ l.order.gate
-    gate_count_lem = count l.order.gate count_size gate refl i is
+    pub own_place : i < l.order.own → rule_in (drop (l.order.middle + count_size + record_size * i) s) ≡ place_in q.order.own i
+    own_place h =
+        sym (rule_in_place i l.order.own (drop count_size (drop l.order.middle s)) (rule [] 0) h
+        ∙ ap (λ (t : List ℕ). rule_in (drop (record_size * i) t)) (drop-drop count_size l.order.middle s)
+        ∙ ap rule_in (drop-drop (record_size * i) (l.order.middle + count_size) s))
 
-    pub nowhere : i ≡ l.order.gate → Traced p q Nowhere
-    unfolding trace_heard GateTraced
-    nowhere e =
-        let f = first_nothing 0 p gate (omega (arith, gate_number, gate_count_lem)) in
-        record { says = sym (by_nothing s q c.checks p f); gate = f }
+  -- The runs of A's boxes and of B's.
+  module _ (fits : length s < 2 ^ 64) where
+    pub gate_run : Holds box_size box_in s (record { from = count_size; step = record_size; count = l.order.gate }) (regions q.order.gate)
+    gate_run = record {
+      apart = omega arith;
+      inside = omega (arith, c.laid.lists.gate_end, c.laid.lists.own_end, c.laid.lists.inside);
+      fits = fits;
+      are = record_regions l.order.gate (drop count_size s);
+      proper = gate_proper s q c.checks;
+    }
 
-    module _ (some : i ≡ l.order.gate → ⊥) where
-      pub gate_here : i < l.order.gate
-      gate_here = omega (arith, number_within p record_size l.order.gate (drop count_size s), is)
+    pub own_run : Holds box_size box_in s (record { from = l.order.middle + count_size; step = record_size; count = l.order.own }) (regions q.order.own)
+    own_run = record {
+      apart = omega arith;
+      inside = omega (arith, c.laid.lists.own_end, c.laid.lists.inside);
+      fits = fits;
+      are = ap (each_in record_size box_in l.order.own) (sym (drop-drop count_size l.order.middle s)) ∙ record_regions l.order.own (drop count_size (drop l.order.middle s));
+      proper = own_proper s q c.checks;
+    }
 
-      pub gate_decides : (r : Rule) → r ≡ rule_in (drop (count_size + record_size * i) s) → first p gate ≡ found i r.action
-      gate_decides r e =
-          let f = first_found 0 p gate (rule [] 0) (omega (arith, gate_number, gate_count_lem, gate_here)) in
-          let z : 0 + box_number p (regions gate) ≡ i = omega (arith, gate_number) in
-          f ∙ rw (z, ← gate_number, in_place l.order.gate count_size gate refl i is gate_here, ← e) refl
-
-  -- the rule that is found allows, or else it denies
-  module _ (i : ℕ) (r : Rule) (decides : first p gate ≡ found i r.action) {t : Bool} (is : t ≡ is_allow r) where
-    pub gate_allows : t ≡ true → first p gate ≡ found i 1
-    gate_allows e = decides ∙ ap (found i) (eqb-true r.action 1 (sym is ∙ e))
-
-    pub gate_drops : t ≡ false → first p gate ≡ found i 0
-    gate_drops e =
-        let h = found_small p gate i r.action (gate_clean s q c.checks).0 decides in
-        let other = eqb-false r.action 1 (sym is ∙ e) in
-        let z : r.action ≡ 0 = omega (arith, h.1, other) in
-        decides ∙ ap (found i) z
-
-  -- B, where A allows.
-  own_are : q.order.own ≡ rules_in l.order.own (drop (l.order.middle + count_size) s)
-  own_are = ap (rules_in l.order.own) (drop-drop count_size l.order.middle s)
-
-  pub own_whole : Each Whole (each_in record_size box_in l.order.own (drop (l.order.middle + count_size) s))
-  own_whole = records_whole l.order.own (drop (l.order.middle + count_size) s) (rw own_are at (own_clean s q c.checks).0)
-
-  module _ (j : ℕ) (allowed : first p gate ≡ found j 1) (i : ℕ) (is : i ≡ box_number p (each_in record_size box_in l.order.own (drop (l.order.middle + count_size) s))) where
-    own_number : i ≡ box_number p (regions q.order.own)
-    own_number = number l.order.own (l.order.middle + count_size) q.order.own own_are i is
-
-    pub own_here : i < l.order.own
-    own_here = omega (arith, own_has s q c.checks p j allowed, own_number, count l.order.own (l.order.middle + count_size) q.order.own own_are i is)
-
-    pub own_traced : (r : Rule) → r ≡ rule_in (drop (l.order.middle + count_size + record_size * i) s) → Traced p q (Own j i (l.boxes + i) r.action)
-    unfolding trace_heard GateTraced place_of
-    own_traced r e =
-        let a : get_or q.order.own i (rule [] 0) ≡ r = in_place l.order.own (l.order.middle + count_size) q.order.own own_are i is own_here ∙ sym e in
-        record { says = rw (c.laid.boxes_are, ← a) (sym (by_own s q c.checks p j allowed i own_number)); gate = allowed }
-
-  -- The group of the rule that drops the packet.
-  module _ (j : ℕ) (dropped : first p gate ≡ found j 0) where
+  -- The group of a deny rule.
+  module _ {j : ℕ} (deny : Denies q j) where
     abbrev from : ℕ
     from = l.from
 
     abbrev groups : List ℕ
     groups = drop from s
 
-    deny_there : (j < length gate) × (is_allow (get_or gate j (rule [] 0)) ≡ false)
-    unfolding HasOrigin
-    deny_there = let h = has_box s q c.checks p j dropped in (h.0, h.1)
+    pub deny_record : count_size + record_size * j ≤ length s
+    deny_record = omega (arith, gate_record {i = j} (omega (arith, deny.0, gate_length)))
 
-    pub gate_inside : j < l.order.gate
-    gate_inside = omega (arith, deny_there.0, rules_in-length l.order.gate (drop count_size s))
-
-    module _ (k : ℕ) (is : k ≡ denies (rules_of j s)) where
-      earlier_are : k ≡ denies (take j gate)
-      earlier_are = is ∙ ap denies (sym (rules_front j l.order.gate (drop count_size s) (omega (arith, gate_inside))))
+    module _ {k : ℕ} (is : k ≡ denies (rules_of j s)) where
+      earlier_are : k ≡ denies (take j q.order.gate)
+      earlier_are = is ∙ ap denies (sym (rules_front j l.order.gate (drop count_size s) (omega (arith, deny.0, gate_length))))
 
       group_there : k < l.groups
       group_there =
-          let d = deny_counts gate j (length gate) (rule [] 0) deny_there.0 (omega arith) deny_there.1 in
-          let w : denies (take (length gate) gate) ≡ denies gate = ap denies (take_all (length gate) gate (omega arith)) in
+          let d = deny_counts q.order.gate j (length q.order.gate) (rule [] 0) deny.0 (omega arith) deny.1 in
+          let w : denies (take (length q.order.gate) q.order.gate) ≡ denies q.order.gate = ap denies (take_all (length q.order.gate) q.order.gate (omega arith)) in
           omega (arith, earlier_are, c.laid.groups_are)
 
       groups_inside : from ≤ length s
@@ -182,29 +137,33 @@ module _ {s : List ℕ} {l : PairLayout} (c : Checked s l) (p : Packet) where
       pub earlier_inside : run_size k (take (length s - from) groups) ≤ length (take (length s - from) groups)
       earlier_inside = rw (tail_whole s from groups_inside) (omega (arith, group_inside (count_in (drop (run_size k groups) groups)) refl))
 
-      module _ (front : ℕ) (counts : front ≡ box_count k (take (length s - from) groups)) where
-        front_is : front ≡ box_count k groups
-        front_is = counts ∙ ap (box_count k) (tail_whole s from groups_inside)
+      module _ {front : ℕ} (counts : front ≡ box_count k (take (length s - from) groups)) where
+        boxes_before : front ≡ box_count k groups
+        boxes_before = counts ∙ ap (box_count k) (tail_whole s from groups_inside)
+
+        pub group_front : front ≡ front_of q j
+        group_front =
+            boxes_before ∙ (ap (λ (x : List (List Region)). length (together x)) (sym (groups_front k l.groups groups (omega (arith, group_there)))) ∙ ap (λ (m : ℕ). length (together (take m q.groups))) earlier_are)
 
         abbrev start : ℕ
         start = from + count_size * k + box_size * front
 
         start_is : start ≡ from + run_size k groups
-        start_is = omega (arith, front_is)
+        start_is = omega (arith, boxes_before)
 
         at_start : drop start s ≡ drop (run_size k groups) groups
         at_start = ap (λ (m : ℕ). drop m s) start_is ∙ sym (drop-drop (run_size k groups) from s)
 
-        module _ (n : ℕ) (told : n ≡ count_in (drop start s)) where
-          pub boxes_inside : start + count_size + box_size * n ≤ length s
+        module _ {n : ℕ} (told : n ≡ count_in (drop start s)) where
+          boxes_inside : start + count_size + box_size * n ≤ length s
           boxes_inside =
               let g = length-drop from s in
               omega (arith, start_is, group_inside n (told ∙ ap count_in at_start), groups_inside)
 
         pub start_inside : start + count_size ≤ length s
-        start_inside = omega (arith, boxes_inside (count_in (drop start s)) refl)
+        start_inside = omega (arith, boxes_inside {n = count_in (drop start s)} refl)
 
-        module _ (n : ℕ) (told : n ≡ count_in (drop start s)) where
+        module _ {n : ℕ} (told : n ≡ count_in (drop start s)) where
           boxes_are_lem : each_in box_size box_in n (drop (start + count_size) s) ≡ group_at q j
           boxes_are_lem =
               let g = group_at_lem k l.groups groups group_there in
@@ -213,12 +172,5 @@ module _ {s : List ℕ} {l : PairLayout} (c : Checked s l) (p : Packet) where
               let x : get_or q.groups k [] ≡ group_at q j = ap (λ (m : ℕ). get_or q.groups m []) earlier_are in
               rw (told, ← d) (w ∙ x)
 
-          pub boxes_whole : Each Whole (each_in box_size box_in n (drop (start + count_size) s))
-          boxes_whole = rw boxes_are_lem (group_whole s q c.checks j)
-
-          pub gate_traced : (b : ℕ) → b ≡ box_number p (each_in box_size box_in n (drop (start + count_size) s)) → Traced p q (Gate j b (front + b))
-          unfolding trace_heard GateTraced place_of
-          gate_traced b e =
-              let b-is : b ≡ box_number p (group_at q j) = e ∙ ap (box_number p) boxes_are_lem in
-              let f : front ≡ length (together (take (denies (take j gate)) q.groups)) = front_is ∙ (ap (λ (x : List (List Region)). length (together x)) (sym (groups_front k l.groups groups (omega (arith, group_there)))) ∙ ap (λ (m : ℕ). length (together (take m q.groups))) earlier_are) in
-              record { says = rw (f, b-is) (sym (by_gate s q c.checks p j dropped)); gate = dropped }
+          pub group_run : length s < 2 ^ 64 → Holds box_size box_in s (record { from = start + count_size; step = box_size; count = n }) (group_at q j)
+          group_run fits = record { apart = omega arith; inside = boxes_inside told; fits = fits; are = boxes_are_lem; proper = group_proper s q c.checks j }

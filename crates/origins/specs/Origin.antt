@@ -3,10 +3,9 @@ use Rattle.std.specs.Prelude.{◌≡◌, List, [], ◌∷◌, ℕ}
 use Rattle.policy.specs.Fields.{Limits, limits}
 use Rattle.policy.specs.Ranges.{Packet}
 use Rattle.policy.specs.Rules.{Found, first}
-use Rattle.policy.specs.Refusals.{Outcome, accepted, refused, test, and_then, said}
+use Rattle.policy.specs.Refusals.{Answer, Outcome, accepted, refused, test, and_then, said}
 use Rattle.policy.specs.Move.{Pair, cell_list}
 use Rattle.policy.specs.Origins.{Origin, gate_rule, own_rule, origin_at}
-use Rattle.policy.specs.declared.Answer.{Answer}
 use Rattle.wire.specs.Buffers.{written}
 use Rattle.filter.specs.Lookup.{Hit, lookup_number, decided_by}
 use Rattle.promises.specs.Calls.{work_after, both_lent, check_of}

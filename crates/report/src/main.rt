@@ -2,20 +2,15 @@
 // are read a block at a time, so that memory does not grow with them, and nothing is printed before the last one is counted.
 #![tactic(auto)]
 
-ghost use Rattle.std.specs.Prelude.{◌≡◌, true, ◌≤◌};
-ghost use Rattle.origins.specs.Steps.{Checked};
-ghost use Rattle.rows.specs.Steps.{Tabled};
-ghost use Rattle.load.specs.Steps.{load_value, Bounded};
-ghost use Rattle.reporting.specs.Report.{are_readings, hits_size};
-ghost use Rattle.report.specs.Steps.{Within, GoesOn};
-
 use groups::WORK_BYTES;
-use load::{Added, Load, PACKET_BYTES, PACKETS_MOST};
+use load::{Load, PACKET_BYTES, PACKETS_MOST};
+use origins::CheckedSheet;
 use policy::Refusal;
 use printing::{print_number, print_refusal, print_text};
-use reporting::{HITS_NUMBERS, READING_BYTES};
-use rows::TABLE_NUMBERS;
-use sheet::{PAIR_BYTES, PairLayout, PairParts};
+use reading::read_full;
+use reporting::{HITS_NUMBERS, READING_BYTES, Readings};
+use rows::{TABLE_NUMBERS, TabledSheet};
+use sheet::PAIR_BYTES;
 use std::env::FillError;
 use std::io::Read;
 use std::rt::Env;
@@ -47,27 +42,23 @@ struct Files<F> {
     later: F,
 }
 
-// What both files of readings gave.
-#[derive(Clone, Copy)]
-struct Readings<'a> {
-    earlier: &'a [u8],
-    later: &'a [u8],
-}
-
-// How many bytes a file gave, or that it could not be read.
-#[derive(Clone, Copy)]
-enum FileRead {
-    Bytes(usize),
-    Failed,
-}
-
-// The load with a block added, behind which others may come or none does; or why there is none.
-#[derive(Clone, Copy)]
-enum Counted {
-    More(Load),
-    Last(Load),
+// Why there is no load of the packets: they are refused, or cannot be read.
+#[derive(Drop)]
+enum Stop {
     Refused(Refusal),
-    Failed,
+    Unread,
+}
+
+impl From<Refusal> for Stop {
+    fn from(f: Refusal) -> Stop {
+        Stop::Refused(f)
+    }
+}
+
+impl From<io::Error> for Stop {
+    fn from(_e: io::Error) -> Stop {
+        Stop::Unread
+    }
 }
 
 // A file that cannot be opened or read, by the name that it was given. Of a name longer than any path the front is printed.
@@ -101,72 +92,21 @@ fn open_argument<R: Env + fs::Files + Print>(
     Ok(file)
 }
 
-// Reads until the buffer is full or the file ends.
-fn read_file(file: &mut impl Read, buffer: &mut [u8]) -> FileRead
-    ensures { Within buffer.new result }
-{
-    match reading::read_full(file, buffer) {
-        Ok(n) => FileRead::Bytes(n),
-        Err(_) => FileRead::Failed,
-    }
-}
-
-// A block that does not fill the buffer is the last one.
-fn add_next(
-    packets: &mut impl Read,
-    t: Load,
-    sheet: &[u8],
-    layout: PairLayout,
-    table: &[u32],
-    block: &mut [u8],
-) -> Counted
-    requires { Checked sheet.now layout × Tabled sheet.now layout table.now × Bounded (load_value t) }
-    ensures { GoesOn result }
-{
-    match read_file(packets, block) {
-        FileRead::Failed => Counted::Failed,
-        FileRead::Bytes(n) => match load::add_block(t, &block[..n], sheet, layout, table) {
-            Added::Refused(f) => Counted::Refused(f),
-            Added::Sum(sum) => {
-                if n < block.len() {
-                    return Counted::Last(sum);
-                }
-                Counted::More(sum)
-            }
-        },
-    }
-}
-
-// All blocks added, or as many of them as have more packets than a report may.
+// All blocks added, or as many of them as have more packets than a report may. A block that does not fill the buffer is the last one.
 fn add_all(
     packets: &mut impl Read,
-    sheet: &[u8],
-    layout: PairLayout,
-    table: &[u32],
+    sheet: TabledSheet<'_>,
     block: &mut [u8],
-) -> Counted
-    requires { Checked sheet.now layout × Tabled sheet.now layout table.now }
-{
+) -> Result<Load, Stop> {
     let mut sum = Load::none();
-    let mut left = BLOCKS_MOST;
-    while 0 < left {
-        match add_next(packets, sum, sheet, layout, table, block) {
-            Counted::More(t) => {
-                sum = t;
-            }
-            Counted::Last(t) => {
-                return Counted::Last(t);
-            }
-            Counted::Refused(f) => {
-                return Counted::Refused(f);
-            }
-            Counted::Failed => {
-                return Counted::Failed;
-            }
+    for _ in 0..BLOCKS_MOST {
+        let n = read_full(packets, block)?;
+        sum = load::add_block(sum, &block[..n], sheet)?;
+        if n < block.len() {
+            return Ok(sum);
         }
-        left -= 1;
     }
-    Counted::More(sum)
+    Err(Stop::Refused(Refusal::CountOutside))
 }
 
 fn print_total(rt: &impl Print, name: &str, n: u64) -> io::Result<()> {
@@ -192,75 +132,53 @@ fn print_load(rt: &impl Print, t: Load) -> io::Result<()> {
 }
 
 // A line for each place of the cell list.
-fn print_hits(rt: &impl Print, earlier: &[u8], later: &[u8], places: usize) -> io::Result<()>
-    requires { (places ≤ hits_size) × (are_readings places earlier.now later.now ≡ true) }
-{
-    for place in 0..places {
+fn print_hits(rt: &impl Print, readings: Readings<'_>) -> io::Result<()> {
+    for place in 0..readings.places {
         print_number(rt, place)?;
         print_text(rt, b" ")?;
-        print_number(
-            rt,
-            reporting::hits_at(earlier, later, places, place) as usize,
-        )?;
+        print_number(rt, readings.hits_at(place) as usize)?;
         print_text(rt, b"\n")?;
     }
     Ok(())
 }
 
-// The lengths of both files of readings, then the packets.
 fn print_loaded(
     rt: &(impl Env + Print),
     packets: &mut impl Read,
-    sheet: &[u8],
-    layout: PairLayout,
+    sheet: CheckedSheet<'_>,
     readings: Readings<'_>,
     block: &mut [u8],
-) -> io::Result<()>
-    requires { Checked sheet.now layout }
-{
-    let earlier = readings.earlier;
-    let later = readings.later;
-    let places = layout.boxes + layout.order.own;
-    if !reporting::are_readings(earlier, later, places) {
-        return print_refusal(rt, Refusal::LengthWrong);
-    }
+) -> io::Result<()> {
     let mut table = [0u32; TABLE_NUMBERS];
-    rows::put_table(sheet, layout, &mut table);
-    match add_all(packets, sheet, layout, &table, block) {
-        Counted::Failed => print_unread(rt, PACKETS),
-        Counted::Refused(f) => print_refusal(rt, f),
-        Counted::More(_) => print_refusal(rt, Refusal::CountOutside),
-        Counted::Last(t) => {
+    match add_all(packets, TabledSheet::new(sheet, &mut table), block) {
+        Err(Stop::Unread) => print_unread(rt, PACKETS),
+        Err(Stop::Refused(f)) => print_refusal(rt, f),
+        Ok(t) => {
             print_load(rt, t)?;
-            print_hits(rt, earlier, later, places)
+            print_hits(rt, readings)
         }
     }
 }
 
-// One byte more than the readings of the longest list tells that a file is too long.
+// The lengths of both files of readings, then the packets. One byte more than the readings of the longest list tells that a file is too
+// long.
 fn print_checked<F: Read + Drop>(
     rt: &(impl Env + Print),
     mut files: Files<F>,
-    sheet: &[u8],
-    layout: PairLayout,
+    sheet: CheckedSheet<'_>,
     block: &mut [u8],
-) -> io::Result<()>
-    requires { Checked sheet.now layout }
-{
+) -> io::Result<()> {
     let mut earlier = [0u8; READINGS_BYTES + 1];
     let mut later = [0u8; READINGS_BYTES + 1];
-    match read_file(&mut files.earlier, &mut earlier) {
-        FileRead::Failed => print_unread(rt, EARLIER),
-        FileRead::Bytes(e) => match read_file(&mut files.later, &mut later) {
-            FileRead::Failed => print_unread(rt, LATER),
-            FileRead::Bytes(l) => {
-                let readings = Readings {
-                    earlier: &earlier[..e],
-                    later: &later[..l],
-                };
-                print_loaded(rt, &mut files.packets, sheet, layout, readings, block)
-            }
-        },
+    let Ok(e) = read_full(&mut files.earlier, &mut earlier) else {
+        return print_unread(rt, EARLIER);
+    };
+    let Ok(l) = read_full(&mut files.later, &mut later) else {
+        return print_unread(rt, LATER);
+    };
+    match Readings::new(&earlier[..e], &later[..l], sheet.places()) {
+        Err(f) => print_refusal(rt, f),
+        Ok(readings) => print_loaded(rt, &mut files.packets, sheet, readings, block),
     }
 }
 
@@ -268,12 +186,12 @@ fn print_checked<F: Read + Drop>(
 fn print_report<F: Read + Drop>(rt: &(impl Env + Print), mut files: Files<F>) -> io::Result<()> {
     let mut sheet = [0u8; PAIR_BYTES + 1];
     let mut work = [0u8; WORK_BYTES];
-    match read_file(&mut files.sheet, &mut sheet) {
-        FileRead::Failed => print_unread(rt, SHEET),
-        FileRead::Bytes(n) => match checking::checked(&sheet[..n], &mut work) {
-            PairParts::Refused(f) => print_refusal(rt, f),
-            PairParts::Parts(layout) => print_checked(rt, files, &sheet[..n], layout, &mut work),
-        },
+    let Ok(n) = read_full(&mut files.sheet, &mut sheet) else {
+        return print_unread(rt, SHEET);
+    };
+    match CheckedSheet::new(&sheet[..n], &mut work) {
+        Err(f) => print_refusal(rt, f),
+        Ok(checked) => print_checked(rt, files, checked, &mut work),
     }
 }
 

@@ -1,9 +1,8 @@
 -- The load report: a pair sheet, packets and two files of readings (02, W3). Assumes nothing.
 use Rattle.std.specs.Prelude.{◌≡◌, List, [], ◌∷◌, Bool, ◌&&◌, ℕ, ◌*◌, eqb, length}
 use Rattle.policy.specs.Fields.{Limits, limits, work_size}
-use Rattle.policy.specs.Refusals.{Outcome, accepted, test, and_then, said}
+use Rattle.policy.specs.Refusals.{Answer, Outcome, accepted, test, and_then, said}
 use Rattle.policy.specs.Move.{Pair, cell_list}
-use Rattle.policy.specs.declared.Answer.{Answer}
 use Rattle.wire.specs.Buffers.{room_for, written, length_of}
 use Rattle.promises.specs.Calls.{work_after, check_of}
 use Rattle.load.specs.Load.{Load, no_load, gain_of}

@@ -1,20 +1,22 @@
 // The load report over a pair sheet that passes check, packets, and two files of readings of the filter's counters.
 #![tactic(auto)]
 
-ghost use Rattle.std.specs.Prelude.{◌≡◌, true, ◌≤◌, length, get_or};
+ghost use Rattle.std.specs.Prelude.{◌≡◌, true, false, ◌≤◌, length, get_or, MatchResult};
 ghost use Rattle.std.proofs.lemmas.List.Edits.{sets};
+ghost use Rattle.policy.specs.Refusals.{heard};
+ghost use Rattle.policy.specs.declared.Refusal.TheVariants.{LengthWrong};
 ghost use Rattle.wire.specs.Buffers.{filled};
 ghost use Rattle.sheet.specs.Steps.{pair_at};
-ghost use Rattle.origins.specs.Steps.{Checked};
-ghost use Rattle.load.specs.Packets.{hits_in};
-ghost use Rattle.load.specs.Steps.{load_value, added_heard};
-ghost use Rattle.reporting.specs.Report.{are_readings, loaded_of, totals_size, totals_of, hits_size, Reports};
+ghost use Rattle.load.specs.Load.{no_load};
+ghost use Rattle.load.specs.Packets.{added_to, hits_in};
+ghost use Rattle.load.specs.Steps.{load_value};
+ghost use Rattle.reporting.specs.Report.{are_readings, totals_size, totals_of, hits_size, Reports};
 
 use groups::WORK_BYTES;
-use load::{Added, Load};
+use load::Load;
+use origins::CheckedSheet;
 use policy::{Answer, Refusal, TOTAL_MOST};
-use rows::TABLE_NUMBERS;
-use sheet::{PairLayout, PairParts};
+use rows::{TABLE_NUMBERS, TabledSheet};
 
 // The fewest numbers that may be lent: the totals, and a number of hits for each place that a list can have.
 pub const TOTALS_NUMBERS: usize = 6;
@@ -25,7 +27,7 @@ pub const HITS_NUMBERS: usize = TOTAL_MOST;
 pub const READING_BYTES: usize = 4;
 
 // Whether both have a reading for each of so many places, and no byte more.
-pub fn are_readings(earlier: &[u8], later: &[u8], places: usize) -> bool
+fn are_readings(earlier: &[u8], later: &[u8], places: usize) -> bool
     requires { places ≤ hits_size }
     ensures { result ≡ are_readings places earlier.now later.now }
 {
@@ -35,26 +37,53 @@ pub fn are_readings(earlier: &[u8], later: &[u8], places: usize) -> bool
     later.len() == READING_BYTES * places
 }
 
-// The hits at a place between the two readings; none behind the last place.
-pub fn hits_at(earlier: &[u8], later: &[u8], places: usize, place: usize) -> u32
-    requires { (places ≤ hits_size) × (are_readings places earlier.now later.now ≡ true) }
-    ensures { result ≡ get_or (hits_in places earlier.now later.now) place 0 }
-{
-    if places <= place {
-        return 0;
-    }
-    let at = READING_BYTES * place;
-    load::hits_between(wire::four_at(earlier, at), wire::four_at(later, at))
+// An earlier and a later reading of the counter at each of so many places.
+#[derive(Clone, Copy)]
+pub struct Readings<'a> {
+    pub earlier: &'a [u8],
+    pub later: &'a [u8],
+    pub places: usize,
+    pub ghost few: { places ≤ hits_size },
+    pub ghost lengths: { are_readings places earlier.now later.now ≡ true },
 }
 
-fn put_hits(hits: &mut [u32], earlier: &[u8], later: &[u8], places: usize)
-    requires { (hits_size ≤ length hits.old) × (places ≤ hits_size) × (are_readings places earlier.now later.now ≡ true) }
-    ensures { hits.new ≡ filled hits_size hits.old (hits_in places earlier.now later.now) }
+impl<'a> Readings<'a> {
+    // Readings that fit so many places, or the refusal.
+    pub fn new(earlier: &'a [u8], later: &'a [u8], places: usize) -> Result<Readings<'a>, Refusal>
+        requires { places ≤ hits_size }
+        ensures { MatchResult result (λ r. (r.earlier.now ≡ earlier.now) × (r.later.now ≡ later.now) × (r.places ≡ places)) (λ f. (f ≡ LengthWrong) × (are_readings places earlier.now later.now ≡ false)) }
+    {
+        if !are_readings(earlier, later, places) {
+            return Err(Refusal::LengthWrong);
+        }
+        Ok(Readings {
+            earlier,
+            later,
+            places,
+        })
+    }
+
+    // The hits at a place between the two readings; none behind the last place.
+    pub fn hits_at(self, place: usize) -> u32
+        ensures { result ≡ get_or (hits_in self.entry.places self.entry.earlier.now self.entry.later.now) place 0 }
+    {
+        if self.places <= place {
+            return 0;
+        }
+        let at = READING_BYTES * place;
+        load::hits_between(
+            wire::four_at(self.earlier, at),
+            wire::four_at(self.later, at),
+        )
+    }
+}
+
+fn put_hits(hits: &mut [u32], readings: Readings<'_>)
+    requires { hits_size ≤ length hits.old }
+    ensures { hits.new ≡ filled hits_size hits.old (hits_in readings.entry.places readings.entry.earlier.now readings.entry.later.now) }
 {
-    let mut place: usize = 0;
-    while place < HITS_NUMBERS {
-        hits[place] = hits_at(earlier, later, places, place);
-        place += 1;
+    for place in 0..HITS_NUMBERS {
+        hits[place] = readings.hits_at(place);
     }
 }
 
@@ -63,25 +92,21 @@ fn put_totals(totals: &mut [u64], t: Load)
     ensures { totals.new ≡ sets totals.old 0 (totals_of (load_value t)) }
 {
     let gain = t.gain();
-    totals[0] = t.packets;
-    totals[1] = t.before;
-    totals[2] = t.after;
-    totals[3] = t.forwarded;
-    totals[4] = gain.numerator;
-    totals[5] = gain.denominator;
+    totals[..TOTALS_NUMBERS].copy_from_slice(&[
+        t.packets,
+        t.before,
+        t.after,
+        t.forwarded,
+        gain.numerator,
+        gain.denominator,
+    ]);
 }
 
-// The lengths of both files of readings before any packet.
-fn load_all(sheet: &[u8], layout: PairLayout, packets: &[u8], earlier: &[u8], later: &[u8]) -> Added
-    requires { Checked sheet.now layout }
-    ensures { added_heard result ≡ loaded_of (pair_at layout sheet.now) packets.now earlier.now later.now }
+fn load_all(sheet: CheckedSheet<'_>, packets: &[u8]) -> Result<Load, Refusal>
+    ensures { heard load_value result ≡ added_to (pair_at sheet.entry.layout sheet.entry.bytes.now) no_load packets.now }
 {
-    if !are_readings(earlier, later, layout.boxes + layout.order.own) {
-        return Added::Refused(Refusal::LengthWrong);
-    }
     let mut table = [0u32; TABLE_NUMBERS];
-    rows::put_table(sheet, layout, &mut table);
-    load::add_block(Load::none(), packets, sheet, layout, &table)
+    load::add_block(Load::none(), packets, TabledSheet::new(sheet, &mut table))
 }
 
 // The report: check, the readings' lengths, the packets; then the totals and the hits at each place of the cell list.
@@ -97,24 +122,18 @@ pub fn report(
     ensures { Reports sheet.now packets.now earlier.now later.now totals.old hits.old work.old result totals.new hits.new work.new }
 {
     if totals.len() < TOTALS_NUMBERS {
-        return Answer::Refused(Refusal::BufferShort);
+        return Err(Refusal::BufferShort);
     }
     if hits.len() < HITS_NUMBERS {
-        return Answer::Refused(Refusal::BufferShort);
+        return Err(Refusal::BufferShort);
     }
     if work.len() < WORK_BYTES {
-        return Answer::Refused(Refusal::BufferShort);
+        return Err(Refusal::BufferShort);
     }
-    match checking::checked(sheet, work) {
-        PairParts::Refused(f) => Answer::Refused(f),
-        PairParts::Parts(layout) => match load_all(sheet, layout, packets, earlier, later) {
-            Added::Refused(f) => Answer::Refused(f),
-            Added::Sum(t) => {
-                let places = layout.boxes + layout.order.own;
-                put_totals(totals, t);
-                put_hits(hits, earlier, later, places);
-                Answer::Length(places)
-            }
-        },
-    }
+    let checked = CheckedSheet::new(sheet, work)?;
+    let readings = Readings::new(earlier, later, checked.places())?;
+    let load = load_all(checked, packets)?;
+    put_totals(totals, load);
+    put_hits(hits, readings);
+    Ok(readings.places)
 }

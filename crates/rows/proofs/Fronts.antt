@@ -9,7 +9,7 @@ use lib.ListN.{length, get_or, set, take, drop, length-append, take-append-drop}
 use lib.Seq.{sets, take-suc, split_at, drop-drop, get_or-drop, get_or-set_same, get_or-set_other}
 use borrow.Author.Count.{below_more}
 use Rattle.lists.proofs.Lists.{append-none, drop-sets}
-use Rattle.policy.specs.Fields.{box_size, count_size, record_size}
+use Rattle.policy.specs.Fields.{box_size, count_size}
 use Rattle.policy.specs.Ranges.{Region}
 use Rattle.policy.specs.Rules.{Rule, rule, is_allow, denies}
 use Rattle.policy.specs.Move.{Pair, together}
@@ -17,17 +17,15 @@ use Rattle.policy.specs.Demands.{group_at}
 use Rattle.policy.proofs.Edits.{together-append}
 use Rattle.policy.proofs.Kept.{denies-append}
 use Rattle.wire.specs.Lists.{count_in}
-use Rattle.wire.specs.Records.{rule_in}
-use Rattle.wire.proofs.Records.{boxes_in-length, rules_in-length, rule_in_place}
+use Rattle.wire.proofs.Records.{boxes_in-length}
 use Rattle.sheet.specs.Pairs.{group_boxes}
 use Rattle.sheet.specs.Steps.{box_count, pair_at}
 use Rattle.sheet.specs.declared.PairLayout.{PairLayout}
 use Rattle.kept.specs.Steps.{run_size}
 use Rattle.kept.proofs.Runs.{groups_front}
-use Rattle.origins.specs.Steps.{Checked}
+use Rattle.origins.specs.Steps.{Checked, place_in, front_of}
 use Rattle.origins.proofs.Deciding.{good}
-use Rattle.origins.proofs.Tracing.{group_at_lem}
-use Rattle.rows.specs.Steps.{front_of}
+use Rattle.origins.proofs.Tracing.{gate_length, group_at_lem}
 
 module _ (q : Pair) where
   abbrev gate : List Rule
@@ -101,9 +99,6 @@ module _ {s : List ℕ} {l : PairLayout} (c : Checked s l) where
   counted : length q.groups ≡ denies q.order.gate
   counted = (good s q c.checks).counted
 
-  pub gate_count_lem : length q.order.gate ≡ l.order.gate
-  gate_count_lem = rules_in-length l.order.gate (drop count_size s)
-
   pub reached_first : Reached s l 0 0 l.from
   unfolding denies together
   reached_first = (refl, omega arith)
@@ -114,20 +109,17 @@ module _ {s : List ℕ} {l : PairLayout} (c : Checked s l) where
 
     module _ (here : k < l.order.gate) where
       here_gate : k < length q.order.gate
-      here_gate = omega (arith, gate_count_lem)
+      here_gate = omega (arith, gate_length c)
 
-      this_is : get_or q.order.gate k (rule [] 0) ≡ rule_in (drop (count_size + record_size * k) s)
-      this_is = rule_in_place k l.order.gate (drop count_size s) (rule [] 0) here ∙ ap rule_in (drop-drop (record_size * k) count_size s)
-
-      module _ {r : Rule} (read : r ≡ rule_in (drop (count_size + record_size * k) s)) where
+      module _ {r : Rule} (read : r ≡ place_in q.order.gate k) where
         pub reached_allow : is_allow r ≡ true → Reached s l (k + 1) boxes start
         reached_allow e =
-            let a = allow_next q k here_gate (ap is_allow (this_is ∙ sym read) ∙ e) in
+            let a = allow_next q k here_gate (ap is_allow (sym read) ∙ e) in
             (omega (arith, is.0, a.1), omega (arith, is.1, a.0))
 
         module _ (denied : is_allow r ≡ false) where
           this_denies : is_allow (get_or q.order.gate k (rule [] 0)) ≡ false
-          this_denies = ap is_allow (this_is ∙ sym read) ∙ denied
+          this_denies = ap is_allow (sym read) ∙ denied
 
           abbrev earlier : ℕ
           earlier = denies (take k q.order.gate)

@@ -13,11 +13,10 @@ use Rattle.lists.specs.Lists.{Each, every, every_both}
 use Rattle.lists.proofs.Lists.{every_at}
 use Rattle.lists.proofs.Tests.{and_true}
 use Rattle.policy.specs.Fields.{fields, highest, widths}
-use Rattle.policy.specs.Ranges.{range, Region, within, inside, proper_range, proper}
+use Rattle.policy.specs.Ranges.{Range, range, Region, within, inside, proper_range, proper}
 use Rattle.policy.specs.Rules.{Proper}
-use Rattle.policy.specs.Values.{ranges}
+use Rattle.policy.specs.Steps.{range_at}
 use Rattle.policy.proofs.Moves.{proper_whole}
-use Rattle.policy.proofs.Values.{ranges-length, ranges_at}
 use Rattle.filter.proofs.Insides.{range_whole}
 use Rattle.wire.proofs.Items.{Items, items_written_length, items_back}
 use Rattle.wire.proofs.Records.{fits-length, proper_fits}
@@ -87,25 +86,26 @@ row_tried k values t whole h g inv =
     rw (drop_of_length-le highest l, drop_of_length-le values g) at inv
 
 -- Writing.
-module _ (low high : List ℕ) (same : length low ≡ length high) (k : ℕ) where
-  pub field_whole : Proper (ranges low high) → k < length low → get_or low k 0 ≤ get_or high k 0
-  field_whole h g =
-      let w = range_whole (ranges low high) k (proper_whole highest (ranges low high) h) (omega (arith, ranges-length low high same)) in
-      rw (ranges_at low high k same) at w
+module _ (b : Region) (proper_b : Proper b) (k : ℕ) where
+  field_count_lem : length b ≡ fields
+  field_count_lem = fits-length widths b (proper_fits b proper_b)
 
-  module _ (out : List ℕ) (p : ℕ) (whole : List ℕ) (inv : sets out p (row_numbers (drop k (ranges low high))) ≡ whole) where
-    pub field_put : k < length low → sets (set (set out p (get_or low k 0)) (p + 1) (get_or high k 0 - get_or low k 0)) (p + 2) (row_numbers (drop (k + 1) (ranges low high))) ≡ whole
+  pub field_whole : k < fields → (range_at b k).low ≤ (range_at b k).high
+  field_whole h = range_whole b k (proper_whole highest b proper_b) (omega (arith, field_count_lem))
+
+  module _ (out : List ℕ) (p : ℕ) (whole : List ℕ) (inv : sets out p (row_numbers (drop k b)) ≡ whole) where
+    pub field_put : k < fields → {r : Range} → r ≡ range_at b k → sets (set (set out p r.low) (p + 1) (r.high - r.low)) (p + 2) (row_numbers (drop (k + 1) b)) ≡ whole
     unfolding row_numbers
-    field_put g =
-        let l : k < length (ranges low high) = omega (arith, ranges-length low high same) in
+    field_put g is =
+        let l : k < length b = omega (arith, field_count_lem) in
         let e : p + 2 ≡ suc (suc p) = omega arith in
-        rw (e, add-one p, add-one k) (rw (drop-cons (ranges low high) k (range 0 0) l, ranges_at low high k same) at inv)
+        rw (e, add-one p, add-one k, is) (rw (drop-cons b k (range 0 0) l) at inv)
 
-    pub row_put : length low ≤ k → out ≡ whole
+    pub row_put : fields ≤ k → out ≡ whole
     unfolding row_numbers
     row_put g =
-        let l : length (ranges low high) ≤ k = omega (arith, ranges-length low high same) in
-        rw (drop_of_length-le (ranges low high) l) at inv
+        let l : length b ≤ k = omega (arith, field_count_lem) in
+        rw (drop_of_length-le b l) at inv
 
 -- A row by itself: it has a low and a span for each field, and is read back.
 numbers-length : (b : Region) → length (row_numbers b) ≡ 2 * length b

@@ -1,13 +1,13 @@
 -- A pair sheet's rules as rows of numbers: what a row says, and what a table of rows has. Assumes nothing.
-use Rattle.std.specs.Prelude.{◌≡◌, List, [], ◌∷◌, ◌++◌, ℕ, ◌+◌, ◌*◌, ◌-◌, ◌≤◌, length, get_or, take}
+use Rattle.std.specs.Prelude.{◌≡◌, List, [], ◌∷◌, ◌++◌, ℕ, ◌+◌, ◌*◌, ◌-◌, ◌≤◌, length, get_or}
 use Rattle.policy.specs.Fields.{fields, highest, limits}
 use Rattle.policy.specs.Ranges.{range, Region}
-use Rattle.policy.specs.Rules.{denies}
 use Rattle.policy.specs.Move.{Pair, together}
 use Rattle.policy.specs.Steps.{regions}
 use Rattle.wire.specs.Records.{each_bytes, each_in}
 use Rattle.sheet.specs.Steps.{pair_at}
 use Rattle.sheet.specs.declared.PairLayout.{PairLayout}
+use Rattle.origins.specs.Steps.{front_of}
 
 -- The numbers of a row. A table has room for those of A and of the cell list; behind them stands a front for each rule of A and one more.
 abbrev pub row_size : ℕ
@@ -45,10 +45,7 @@ rows_in n t = each_in row_size row_in n t
 unfoldable pub all_boxes : Pair → List Region
 all_boxes q = regions q.order.gate ++ (together q.groups ++ regions q.order.own)
 
--- A front: how many boxes stand before the group of the rule at a place of A; at A's end, how many boxes there are.
-abbrev pub front_of : Pair → ℕ → ℕ
-front_of q j = length (together (take (denies (take j q.order.gate)) q.groups))
-
+-- The front of each rule of A and of A's end.
 abbrev pub Fronts : Pair → List ℕ → Type 0
 Fronts q table = (j : ℕ) → j ≤ length q.order.gate → get_or table (fronts_at + j) 0 ≡ front_of q j
 

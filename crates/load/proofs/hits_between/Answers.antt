@@ -5,4 +5,4 @@ use Rattle.load.proofs.hits_between.Goals as goal
 
 pub returns : goal.returns
 unfolding hits_between
-returns c = let e = c.wrapping_sub_u32.ensures in omega arith
+returns c = omega arith

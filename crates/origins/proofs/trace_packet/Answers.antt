@@ -1,32 +1,43 @@
 -- `trace_packet` meets its contract. Assumes nothing.
-use borrow.Author.Rules.{rules}
 use native.Mathlib.Omega.{arith}
-use Rattle.policy.specs.Values.{packet_of, rule_of}
-use Rattle.origins.proofs.Tracing.{gate_whole, gate_record, nowhere, gate_here, gate_decides, gate_allows, gate_drops}
+use mathlib.Core.Path.{ap, sym, ◌∙◌}
+use Rattle.policy.specs.Move.{Pair}
+use Rattle.policy.specs.Values.{packet_of}
+use Rattle.origins.specs.Steps.{place_in, TraceSmall}
+use Rattle.origins.proofs.Searches.{number_held}
+use Rattle.origins.proofs.Traces.{run_count, gate_count_lem, nowhere, gate_there, gate_allows, gate_drops}
 use Rattle.origins.proofs.trace_packet.Goals as goal
 
-pub first_box-rule-requires : goal.first_box-rule-requires
-first_box-rule-requires c =
-    (omega arith, search rules, gate_whole c.requires (packet_of c.args.p))
+pub returns-then-rule-gate-clause-traced : goal.returns-then-rule-gate-clause-traced
+returns-then-rule-gate-clause-traced g c =
+    let k = g.met.B.Boxes.checks c.args.boxes in
+    let h = c.gate-gate.ensures in
+    nowhere k.0 _ k.1 _ _ (number_held h (packet_of c.args.p) c.first_of-rule.ensures) (c.if-rule-gate.true ∙ run_count _ h)
 
-pub returns-then-rule-count : goal.returns-then-rule-count
-returns-then-rule-count c = nowhere c.requires (packet_of c.args.p) _ c.first_box-rule.ensures c.if-rule-count.true
+pub returns-then-rule-gate-clause-small : goal.returns-then-rule-gate-clause-small
+unfolding TraceSmall
+returns-then-rule-gate-clause-small g c = tt
 
-pub overflow_mul-rule : goal.overflow_mul-rule
-overflow_mul-rule c = let h = gate_record c.requires (gate_here c.requires (packet_of c.args.p) _ c.first_box-rule.ensures c.if-rule-count.false) in search rules
-
-pub overflow_add-rule : goal.overflow_add-rule
-overflow_add-rule c = let h = gate_record c.requires (gate_here c.requires (packet_of c.args.p) _ c.first_box-rule.ensures c.if-rule-count.false) in search rules
-
-pub rule_at-record-requires : goal.rule_at-record-requires
-rule_at-record-requires c = gate_record c.requires (gate_here c.requires (packet_of c.args.p) _ c.first_box-rule.ensures c.if-rule-count.false)
+pub gate_rule-record-requires : goal.gate_rule-record-requires
+gate_rule-record-requires g c =
+    let k = g.met.B.Boxes.checks c.args.boxes in
+    let h = c.gate-gate.ensures in
+    let there =
+    gate_there k.0 _ k.1 _ _ (number_held h (packet_of c.args.p) c.first_of-rule.ensures) (λ e. c.if-rule-gate.false (e ∙ sym (run_count _ h))) in
+    omega (arith, there, gate_count_lem c.sheet.result.checked c.sheet.ensures)
 
 pub trace_own-requires : goal.trace_own-requires
-trace_own-requires c =
-    let decided = gate_decides c.requires (packet_of c.args.p) _ c.first_box-rule.ensures c.if-rule-count.false _ c.rule_at-record.ensures in
-    (c.requires, gate_allows c.requires (packet_of c.args.p) _ (rule_of c.rule_at-record.result) decided c.is_allow.ensures c.if-is_allow.true)
+trace_own-requires g c =
+    let k = g.met.B.Boxes.checks c.args.boxes in
+    let h = c.gate-gate.ensures in
+    let rule = c.first_of-rule.result in
+    gate_allows k.0 _ k.1 _ _ (number_held h (packet_of c.args.p) c.first_of-rule.ensures) (λ e. c.if-rule-gate.false (e ∙ sym (run_count _ h)))
+    (c.gate_rule-record.ensures ∙ ap (λ (q : Pair). place_in q.order.gate rule) c.sheet.ensures) c.is_allow.ensures c.if-is_allow.true
 
 pub trace_gate-requires : goal.trace_gate-requires
-trace_gate-requires c =
-    let decided = gate_decides c.requires (packet_of c.args.p) _ c.first_box-rule.ensures c.if-rule-count.false _ c.rule_at-record.ensures in
-    (c.requires, gate_drops c.requires (packet_of c.args.p) _ (rule_of c.rule_at-record.result) decided c.is_allow.ensures c.if-is_allow.false)
+trace_gate-requires g c =
+    let k = g.met.B.Boxes.checks c.args.boxes in
+    let h = c.gate-gate.ensures in
+    let rule = c.first_of-rule.result in
+    gate_drops k.0 _ k.1 _ _ (number_held h (packet_of c.args.p) c.first_of-rule.ensures) (λ e. c.if-rule-gate.false (e ∙ sym (run_count _ h)))
+    (c.gate_rule-record.ensures ∙ ap (λ (q : Pair). place_in q.order.gate rule) c.sheet.ensures) c.is_allow.ensures c.if-is_allow.false

@@ -1,6 +1,5 @@
 -- `put_hits` meets its contract. Assumes nothing.
 use mathlib.Core.Path.{◌≡◌}
-use Prim.Native.Nat.{◌-◌, ◌≤◌}
 use lib.ListN.{length, drop}
 use lib.Seq.{sets}
 use Rattle.load.specs.Packets.{hits_in}
@@ -10,8 +9,5 @@ use Rattle.reporting.proofs.put_hits.Given as goal
 
 abbrev pub invariant-loop-place : goal.invariant-loop-place
 invariant-loop-place l =
-    (l.place ≤ hits_size) × (length l.hits ≡ length l.initial.hits)
-    × (sets l.hits l.place (drop l.place (padded hits_size (hits_in l.places l.earlier l.later))) ≡ sets l.initial.hits 0 (padded hits_size (hits_in l.places l.earlier l.later)))
-
-abbrev pub decreases-loop-place : goal.decreases-loop-place
-decreases-loop-place l = hits_size - l.place
+    let all = padded hits_size (hits_in l.readings.places l.readings.earlier.now l.readings.later.now) in
+    (length l.hits ≡ length l.initial.hits) × (sets l.hits l.place (drop l.place all) ≡ sets l.initial.hits 0 all)

@@ -7,16 +7,15 @@ use mathlib.Core.Bool.{Bool, true, false, not}
 use Prim.Native.Nat.{ℕ, ◌+◌, ◌*◌, ◌<◌, ◌≤◌}
 use lib.ListN.{length, get_or, set, drop, length-set}
 use borrow.Author.Tests.{not-true, not-false}
-use Rattle.policy.specs.Fields.{box_size, count_size, record_size, limits}
+use Rattle.policy.specs.Fields.{box_size, count_size, limits}
 use Rattle.policy.specs.Rules.{Rule, is_allow}
 use Rattle.wire.specs.Lists.{count_in}
-use Rattle.wire.specs.Records.{rule_in}
 use Rattle.sheet.specs.Steps.{pair_at}
 use Rattle.sheet.specs.declared.PairLayout.{PairLayout}
-use Rattle.origins.specs.Steps.{Checked}
-use Rattle.origins.proofs.Tracing.{gate_record}
-use Rattle.rows.specs.Steps.{table_size, fronts_at, front_of}
-use Rattle.rows.proofs.Fronts.{gate_count_lem, Reached, reached_first, reached_few, reached_allow, reached_deny, group_begins, group_inside, below_set}
+use Rattle.origins.specs.Steps.{Checked, place_in, front_of}
+use Rattle.origins.proofs.Tracing.{gate_length}
+use Rattle.rows.specs.Steps.{table_size, fronts_at}
+use Rattle.rows.proofs.Fronts.{Reached, reached_first, reached_few, reached_allow, reached_deny, group_begins, group_inside, below_set}
 use Rattle.rows.proofs.put_fronts.Goals as goal
 use Rattle.rows.proofs.put_fronts.Goals.{else-not-is_allow, then-not-is_allow}
 
@@ -34,7 +33,7 @@ module _ {sheet : List ℕ} {layout : PairLayout} (checked : Checked sheet layou
     stored table there below = below_set (front_of (pair_at layout sheet)) fronts_at table k boxes reached.0 there below
 
     -- A rule is read: whether it denies.
-    module _ (here : k < layout.order.gate) {r : Rule} (read : r ≡ rule_in (drop (count_size + record_size * k) sheet)) {t : Bool} (is : t ≡ is_allow r) where
+    module _ (here : k < layout.order.gate) {r : Rule} (read : r ≡ place_in (pair_at layout sheet).order.gate k) {t : Bool} (is : t ≡ is_allow r) where
       allowed : not t ≡ false → Reached sheet layout (k + 1) boxes start
       allowed e = reached_allow checked k boxes start reached here read (sym is ∙ not-false t e)
 
@@ -53,78 +52,49 @@ module _ {sheet : List ℕ} {layout : PairLayout} (checked : Checked sheet layou
           denied = reached_deny checked k boxes start reached here read denies count told
 
 pub loop-k-init : goal.loop-k-init
-loop-k-init c = (omega arith, refl, reached_first c.requires.0, λ j h. absurd (omega arith))
+loop-k-init c = (refl, reached_first c.args.sheet.checked, λ j h. absurd (omega arith))
 
 pub overflow_cast-table : goal.overflow_cast-table
-overflow_cast-table c = let h = few c.requires.0 _ c.loop-k.invariant.2 in omega arith
-
-pub overflow_add-table : goal.overflow_add-table
-overflow_add-table c = let h = room c.requires.0 _ c.requires.1 c.loop-k.invariant.1 c.loop-k.invariant.0 in search rules
-
-pub bounds-table-k : goal.bounds-table-k
-bounds-table-k c = room c.requires.0 _ c.requires.1 c.loop-k.invariant.1 c.loop-k.invariant.0
-
-pub overflow_mul-k : goal.overflow_mul-k
-overflow_mul-k c = let h = gate_record c.requires.0 c.loop-k-test.true in search rules
-
-pub overflow_add-k : goal.overflow_add-k
-overflow_add-k c = let h = gate_record c.requires.0 c.loop-k-test.true in search rules
-
-pub rule_at-rule-requires : goal.rule_at-rule-requires
-rule_at-rule-requires c = gate_record c.requires.0 c.loop-k-test.true
+overflow_cast-table c = let h = few c.args.sheet.checked _ c.loop-k.invariant.1 in omega arith
 
 pub count_at-count-requires : goal.count_at-count-requires
 count_at-count-requires c =
-    begins c.requires.0 _ c.loop-k.invariant.2 c.loop-k-test.true c.rule_at-rule.ensures c.is_allow.ensures c.if-not-is_allow.true-raw
-
-pub overflow_add-boxes : goal.overflow_add-boxes
-overflow_add-boxes c = omega (arith, few c.requires.0 _ c.loop-k.invariant.2, c.count_at-count.ensures.1)
+    begins c.args.sheet.checked _ c.loop-k.invariant.1 c.loop-k-test.true c.gate_rule.ensures c.is_allow.ensures c.if-not-is_allow.true-raw
 
 pub overflow_add-start : goal.overflow_add-start
 overflow_add-start c =
-    let h = ends c.requires.0 _ c.loop-k.invariant.2 c.loop-k-test.true c.rule_at-rule.ensures c.is_allow.ensures c.if-not-is_allow.true-raw c.count_at-count.ensures.0 in
-    search rules
-
-pub overflow_mul-start : goal.overflow_mul-start
-overflow_mul-start c =
-    let h = ends c.requires.0 _ c.loop-k.invariant.2 c.loop-k-test.true c.rule_at-rule.ensures c.is_allow.ensures c.if-not-is_allow.true-raw c.count_at-count.ensures.0 in
+    let h = ends c.args.sheet.checked _ c.loop-k.invariant.1 c.loop-k-test.true c.gate_rule.ensures c.is_allow.ensures c.if-not-is_allow.true-raw c.count_at-count.ensures.0 in
     search rules
 
 pub overflow_add-start-then-not-is_allow : goal.overflow_add-start-then-not-is_allow
 overflow_add-start-then-not-is_allow c =
-    let h = ends c.requires.0 _ c.loop-k.invariant.2 c.loop-k-test.true c.rule_at-rule.ensures c.is_allow.ensures c.if-not-is_allow.true-raw c.count_at-count.ensures.0 in
+    let h = ends c.args.sheet.checked _ c.loop-k.invariant.1 c.loop-k-test.true c.gate_rule.ensures c.is_allow.ensures c.if-not-is_allow.true-raw c.count_at-count.ensures.0 in
     search rules
 
 pub loop-k-preserved : goal.loop-k-preserved
 loop-k-preserved c =
-    let h : c.loop-k.k + 1 ≤ c.args.layout.order.gate = omega (arith, c.loop-k-test.true) in
-    let l : length (set c.loop-k.table (fronts_at + c.loop-k.k) c.loop-k.boxes) ≡ length c.args.table.now = simp length-set (omega (arith, c.loop-k.invariant.1)) in
-    let s = stored c.requires.0 _ c.loop-k.invariant.2 c.loop-k.table (room c.requires.0 _ c.requires.1 c.loop-k.invariant.1 c.loop-k.invariant.0) c.loop-k.invariant.3 in
+    let checked = c.args.sheet.checked in
+    let l : length (set c.loop-k.table (fronts_at + c.loop-k.k) c.loop-k.boxes) ≡ length c.args.table.now = simp length-set (omega (arith, c.loop-k.invariant.0)) in
+    let s = stored checked _ c.loop-k.invariant.1 c.loop-k.table (room checked _ c.requires c.loop-k.invariant.0 (omega arith)) c.loop-k.invariant.2 in
     elim c.if-not-is_allow.branch [
       | then-not-is_allow w ↦ (
-        h,
         l,
-        rw (w.boxes-is, w.start-is) (denied c.requires.0 _ c.loop-k.invariant.2 c.loop-k-test.true c.rule_at-rule.ensures c.is_allow.ensures w.if-not-is_allow.true-raw w.count_at-count.ensures.0),
+        rw (w.boxes-is, w.start-is) (denied checked _ c.loop-k.invariant.1 c.loop-k-test.true c.gate_rule.ensures c.is_allow.ensures w.if-not-is_allow.true-raw w.count_at-count.ensures.0),
         s,
       )
       | else-not-is_allow w ↦ (
-        h,
         l,
-        rw (w.boxes-is, w.start-is) (allowed c.requires.0 _ c.loop-k.invariant.2 c.loop-k-test.true c.rule_at-rule.ensures c.is_allow.ensures w.if-not-is_allow.false-raw),
+        rw (w.boxes-is, w.start-is) (allowed checked _ c.loop-k.invariant.1 c.loop-k-test.true c.gate_rule.ensures c.is_allow.ensures w.if-not-is_allow.false-raw),
         s,
       )
     ]
 
 pub overflow_cast-table-2 : goal.overflow_cast-table-2
-overflow_cast-table-2 c = let h = few c.requires.0 _ c.loop-k.invariant.2 in omega arith
-
-pub overflow_add-table-2 : goal.overflow_add-table-2
-overflow_add-table-2 c = let h = room c.requires.0 _ c.requires.1 c.loop-k.invariant.1 c.loop-k.invariant.0 in search rules
-
-pub bounds-table-k-2 : goal.bounds-table-k-2
-bounds-table-k-2 c = room c.requires.0 _ c.requires.1 c.loop-k.invariant.1 c.loop-k.invariant.0
+overflow_cast-table-2 c = let h = few c.args.sheet.checked _ c.loop-k.invariant.1 in omega arith
 
 pub returns : goal.returns
 returns c =
-    let s = stored c.requires.0 _ c.loop-k.invariant.2 c.loop-k.table (room c.requires.0 _ c.requires.1 c.loop-k.invariant.1 c.loop-k.invariant.0) c.loop-k.invariant.3 in
-    λ j h. s j (omega (arith, c.loop-k-test.false, gate_count_lem c.requires.0))
+    let checked = c.args.sheet.checked in
+    let e : c.loop-k.k ≡ c.args.sheet.layout.order.gate = omega (arith, c.loop-k.auto.k-end) in
+    let s = stored checked _ c.loop-k.invariant.1 c.loop-k.table (room checked _ c.requires c.loop-k.invariant.0 (omega arith)) c.loop-k.invariant.2 in
+    λ j h. rw e at (s j (omega (arith, gate_length checked)))

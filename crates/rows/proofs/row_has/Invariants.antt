@@ -1,7 +1,7 @@
 -- `row_has` meets its contract: the loop's invariant says that the fields that are left tell the whole. Assumes nothing.
 use mathlib.Core.Path.{◌≡◌}
 use mathlib.Core.Bool.{true}
-use Prim.Native.Nat.{◌+◌, ◌*◌, ◌-◌, ◌≤◌}
+use Prim.Native.Nat.{◌+◌, ◌*◌}
 use lib.ListN.{length, drop}
 use Rattle.policy.specs.Fields.{fields, highest}
 use Rattle.policy.specs.Ranges.{inside, proper}
@@ -10,9 +10,5 @@ use Rattle.rows.proofs.row_has.Given as goal
 
 abbrev pub invariant-loop-k : goal.invariant-loop-k
 invariant-loop-k l =
-    (l.k ≤ fields) × (length l.values ≡ fields) × (l.start + 2 * (fields - l.k) ≤ length l.table)
-    × (proper (drop l.k highest) (spans_in (drop l.k highest) (drop l.start l.table)) ≡ true)
-    × (inside (drop l.k l.values) (spans_in (drop l.k highest) (drop l.start l.table)) ≡ inside l.values (spans_in highest (drop l.at l.table)))
-
-abbrev pub decreases-loop-k : goal.decreases-loop-k
-decreases-loop-k l = fields - l.k
+    (length l.values ≡ fields) × (proper (drop l.k highest) (spans_in (drop l.k highest) (drop (l.at + 2 * l.k) l.table)) ≡ true)
+    × (inside (drop l.k l.values) (spans_in (drop l.k highest) (drop (l.at + 2 * l.k) l.table)) ≡ inside l.values (spans_in highest (drop l.at l.table)))
