@@ -31,8 +31,8 @@ use Rattle.origins.proofs.Deciding.{gate_proper, own_proper, group_proper}
 run_next : (k : ℕ) (s : List ℕ) (count : ℕ) → count ≡ count_in (drop (run_size k s) s) → run_size (k + 1) s ≡ run_size k s + group_size count
 run_next k s count e =
     let b = boxes_behind k 1 s in
-    let a = boxes_next 1 s (run_size k s) count (omega arith) e in
-    let z = boxes_none (1 - 1) (drop (run_size k s + count_size + box_size * count) s) (omega arith) in
+    let a = boxes_next 1 0 s (run_size k s) count (omega arith) e in
+    let z = boxes_none 0 (drop (run_size k s + (count_size + box_size * count)) s) (omega arith) in
     omega arith
 
 run_first : (k : ℕ) (s : List ℕ) → run_size (suc k) s ≡ group_size (count_in s) + run_size k (drop (group_size (count_in s)) s)

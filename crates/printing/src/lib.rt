@@ -11,14 +11,6 @@ use policy::{COUNT_BYTES, RECORD_BYTES, Refusal, Rule, number_of};
 use sheet::PAIR_BYTES;
 use std::{fmt, io};
 
-pub fn print_text(rt: &impl Print, text: &[u8]) -> io::Result<()> {
-    rt.write_all(text)
-}
-
-pub fn print_number(rt: &impl Print, n: usize) -> io::Result<()> {
-    print!(rt; "{n}")
-}
-
 // A rule's line: its action, and its ranges low-high.
 #[derive(Clone, Copy)]
 struct Line(Rule);

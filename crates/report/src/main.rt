@@ -6,7 +6,7 @@ use groups::WORK_BYTES;
 use load::{Load, PACKET_BYTES, PACKETS_MOST};
 use origins::CheckedSheet;
 use policy::Refusal;
-use printing::{print_number, print_refusal, print_text};
+use printing::print_refusal;
 use reading::read_full;
 use reporting::{HITS_NUMBERS, READING_BYTES, Readings};
 use rows::{TABLE_NUMBERS, TabledSheet};
@@ -64,13 +64,14 @@ impl From<io::Error> for Stop {
 // A file that cannot be opened or read, by the name that it was given. Of a name longer than any path the front is printed.
 fn print_unread(rt: &(impl Env + Print), argument: usize) -> io::Result<()> {
     let mut name = [0u8; NAME_BYTES];
-    print_text(rt, b"cannot read ")?;
+    print!(rt; "cannot read ")?;
     match rt.arg(argument, &mut name) {
-        Ok(n) => print_text(rt, &name[..n])?,
-        Err(FillError::TooLong) => print_text(rt, &name)?,
+        // A name need not be text.
+        Ok(n) => rt.write_all(&name[..n])?,
+        Err(FillError::TooLong) => rt.write_all(&name)?,
         Err(FillError::NotPresent) => {}
     }
-    print_text(rt, b"\n")
+    println!(rt; "")
 }
 
 // The file that an argument names. A path is text, so a name that is none names no file.
@@ -115,7 +116,7 @@ fn print_total(rt: &impl Print, name: &str, n: u64) -> io::Result<()> {
 
 fn print_gain(rt: &impl Print, t: Load) -> io::Result<()> {
     if t.packets == 0 {
-        return print_text(rt, b"gain none\n");
+        return println!(rt; "gain none");
     }
     let gain = t.gain();
     let numerator = gain.numerator;
@@ -134,10 +135,7 @@ fn print_load(rt: &impl Print, t: Load) -> io::Result<()> {
 // A line for each place of the cell list.
 fn print_hits(rt: &impl Print, readings: Readings<'_>) -> io::Result<()> {
     for place in 0..readings.places {
-        print_number(rt, place)?;
-        print_text(rt, b" ")?;
-        print_number(rt, readings.hits_at(place) as usize)?;
-        print_text(rt, b"\n")?;
+        println!(rt; "{place} {}", readings.hits_at(place))?;
     }
     Ok(())
 }
@@ -203,7 +201,7 @@ fn is_given(rt: &impl Env, argument: usize) -> bool {
 
 fn main(rt: HostRuntime) -> io::Result<()> {
     if !is_given(&rt, LATER) || is_given(&rt, LATER + 1) {
-        return print_text(&rt, b"usage: report SHEET PACKETS EARLIER LATER\n");
+        return println!(rt; "usage: report SHEET PACKETS EARLIER LATER");
     }
     let Some(sheet) = open_argument(&rt, SHEET)? else {
         return Ok(());

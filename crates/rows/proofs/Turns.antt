@@ -48,8 +48,8 @@ module _ (s : List ℕ) (start n passed : ℕ) (some : passed < n) (count : ℕ)
 
   counts : box_count (n - passed) (drop start s) ≡ count + box_count (n - (passed + 1)) (drop next s)
   counts =
-      let e : n - passed - 1 ≡ n - (passed + 1) = omega arith in
-      boxes_next (n - passed) s start count (omega arith) told ∙ ap (λ (k : ℕ). count + box_count k (drop next s)) e
+      let z : start + (count_size + box_size * count) ≡ next = omega arith in
+      boxes_next (n - passed) (n - (passed + 1)) s start count (omega arith) told ∙ ap (λ (at : ℕ). count + box_count (n - (passed + 1)) (drop at s)) z
 
   pub group_there : start + run_size (n - passed) (drop start s) ≤ length s → next + run_size (n - (passed + 1)) (drop next s) ≤ length s
   group_there h = omega (arith, counts)
