@@ -46,28 +46,24 @@ fn append(draft: &mut [u8], at: usize, boxes: usize, n: usize, content: &[u8]) -
 fn draft_one(
     rules: &[u8],
     i: usize,
+    done: Drafted,
     draft: &mut [u8],
-    at: usize,
-    boxes: usize,
     work: &mut [u8],
 ) -> Result<Drafted, Refusal>
-    requires { Ready rules.now i (i + 1) draft.old at boxes work.old }
-    ensures { DraftedGroups alone rules.now i (i + 1) draft.old at boxes work.old result draft.new work.new }
+    requires { Ready rules.now i (i + 1) draft.old done.end done.boxes work.old }
+    ensures { DraftedGroups alone rules.now i (i + 1) draft.old done.end done.boxes work.old result draft.new work.new }
 {
     let rule = wire::rule_at(rules, RECORD_BYTES * i);
     if rule.is_allow() {
-        return Ok(Drafted {
-            groups: 0,
-            boxes,
-            end: at,
-        });
+        return Ok(Drafted { groups: 0, ..done });
     }
     let n = groups::work_out(rules, i, work)?;
     let size = BOX_BYTES * n;
-    let end = append(draft, at, boxes + n, n, &work[..size]);
+    let boxes = done.boxes + n;
+    let end = append(draft, done.end, boxes, n, &work[..size]);
     Ok(Drafted {
         groups: 1,
-        boxes: boxes + n,
+        boxes,
         end,
     })
 }
@@ -91,7 +87,7 @@ pub fn draft_groups(
         end: 0,
     };
     for i in from..to {
-        let one = draft_one(rules, i, draft, done.end, done.boxes, work)?;
+        let one = draft_one(rules, i, done, draft, work)?;
         done = Drafted {
             groups: done.groups + one.groups,
             ..one

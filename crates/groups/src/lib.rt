@@ -1,5 +1,5 @@
 // The group of a deny rule. The first half of the work buffer holds the pieces; what an allow leaves of them is stored in the
-// second half, and then copied back.
+// second half, and then copied back. How many pieces there are goes beside the half, since a call asks for no memory.
 #![tactic(auto)]
 
 ghost use Rattle.std.specs.Prelude.{◌≡◌, ◌∷◌, [], true, ◌+◌, ◌*◌, ◌≤◌, ◌<◌, length, take, drop};

@@ -2,7 +2,7 @@
 -- Assumes nothing.
 use mathlib.Core.Path.{◌≡◌, refl, ap, sym, ◌∙◌}
 use mathlib.Core.List.{List, ◌∷◌, ◌++◌}
-use Prim.Native.Nat.{ℕ, zero, suc, ◌+◌, ◌*◌, ◌-◌, ◌≤◌}
+use Prim.Native.Nat.{ℕ, zero, suc, ◌+◌, ◌*◌, ◌-◌, ◌≤◌, ◌<◌}
 use native.Mathlib.Omega.{arith}
 use lib.ListN.{length, take, drop, length-append, length-drop, take-append-drop}
 use lib.Seq.{drop-drop, take_all, take-take, take_at, drop_at}
@@ -29,11 +29,17 @@ boxes-cons n s =
     ∙ ap (λ (k : ℕ). k + box_count n (drop (group_size (count_in s)) s)) (boxes_in-length (count_in s) (drop count_size s))
 
 -- the groups from a byte on: the boxes of the first, and the groups behind it
-pub boxes_next : (left next : ℕ) (s : List ℕ) (at count : ℕ) → left ≡ next + 1 → count ≡ count_in (drop at s)
+pub boxes_turn : (left next : ℕ) (s : List ℕ) (at count : ℕ) → left ≡ next + 1 → count ≡ count_in (drop at s)
     → box_count left (drop at s) ≡ count + box_count next (drop (at + (count_size + box_size * count)) s)
-boxes_next left next s at count h e =
+boxes_turn left next s at count h e =
     let l : left ≡ suc next = omega arith in
     ap (λ (n : ℕ). box_count n (drop at s)) l ∙ boxes-cons next (drop at s) ∙ rw (← e, drop-drop (group_size count) at s)
+
+pub boxes_next : (left : ℕ) (s : List ℕ) (at count : ℕ) → 0 < left → count ≡ count_in (drop at s)
+    → box_count left (drop at s) ≡ count + box_count (left - 1) (drop (at + count_size + box_size * count) s)
+boxes_next left s at count h e =
+    let p : at + (count_size + box_size * count) ≡ at + count_size + box_size * count = omega arith in
+    rw p at (boxes_turn left (left - 1) s at count (omega arith) e)
 
 pub boxes_none : (left : ℕ) (s : List ℕ) → left ≤ 0 → box_count left s ≡ 0
 unfolding groups_from together

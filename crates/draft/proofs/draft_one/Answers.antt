@@ -38,10 +38,6 @@ append-end-requires c =
     let few = worked_few (omega arith) c.in_ok-n.ensures in
     (omega arith, simp length-take (omega (arith, few, c.requires.work_room)), λ t. omega (arith, c.requires.start.short, c.requires.room, c.requires.gate))
 
-pub overflow_add-result : goal.overflow_add-result
-overflow_add-result c =
-    omega (arith, worked_few (omega arith) c.in_ok-n.ensures, c.requires.start.few, c.requires.gate)
-
 pub returns : goal.returns
 returns c =
     let few = worked_few (omega arith) c.in_ok-n.ensures in

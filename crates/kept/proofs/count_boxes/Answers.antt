@@ -2,13 +2,13 @@
 use native.Mathlib.Omega.{arith}
 use Prim.Native.Nat.{◌+◌, ◌-◌}
 use lib.ListN.{drop}
-use Rattle.kept.proofs.Runs.{boxes_next, boxes_none}
+use Rattle.kept.proofs.Runs.{boxes_turn, boxes_none}
 use Rattle.kept.proofs.count_boxes.Goals as goal
 
 pub loop-preserved : goal.loop-preserved
 loop-preserved c =
     let h = c.loop in
-    let n = boxes_next (c.args.n - h.counter) (c.args.n - (h.counter + 1)) c.args.s.now h.at c.count_at-count.result (omega arith) c.count_at-count.ensures.0 in
+    let n = boxes_turn (c.args.n - h.counter) (c.args.n - (h.counter + 1)) c.args.s.now h.at c.count_at-count.result (omega arith) c.count_at-count.ensures.0 in
     (omega arith, omega arith)
 
 pub returns : goal.returns
