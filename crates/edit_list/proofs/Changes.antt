@@ -2,7 +2,7 @@
 use Rattle.std.specs.Prelude.{Ok, Err}
 use mathlib.Core.Path.{◌≡◌, refl, ap, sym, ◌∙◌}
 use mathlib.Core.List.{List, [], ◌++◌}
-use mathlib.Core.Bool.{Bool, true, false, cond, not, ◌||◌}
+use mathlib.Core.Bool.{Bool, true, false, not, ◌||◌}
 use Prim.Native.Nat.{ℕ, ◌+◌, ◌*◌, ◌-◌, ◌≤◌, ◌<◌}
 use native.Mathlib.Omega.{arith}
 use lib.Dec.{leb, eqb}
@@ -11,7 +11,7 @@ use lib.Seq.{sets, sets-eq, take_at, length-take-le}
 use borrow.Author.Tests.{le-leb, lt-leb, leb-true, eqb-true, not-true, not-false}
 use Rattle.lists.specs.Lists.{Each}
 use Rattle.lists.proofs.Lists.{append-none}
-use Rattle.policy.specs.Fields.{count_size, record_size, limits}
+use Rattle.policy.specs.Fields.{count_size, record_size}
 use Rattle.policy.specs.Rules.{Rule}
 use Rattle.policy.specs.Refusals.{Outcome, accepted, refused, test, number_of}
 use Rattle.policy.specs.Edit.{Kind, out, put, changed}
@@ -26,7 +26,7 @@ use Rattle.wire.proofs.Records.{RuleFits, record_written_back}
 use Rattle.promises.specs.Edits.{kind_of, whole_record}
 use Rattle.promises.specs.declared.Change.{Change}
 use Rattle.promises.specs.declared.Change.TheVariants.{Insert, Delete, Replace}
-use Rattle.edit_list.specs.Steps.{taken_by, put_by, most_in, spliced, new_bytes, changed_bytes, overlaid, ListChanged}
+use Rattle.edit_list.specs.Steps.{taken_by, put_by, spliced, new_bytes, changed_bytes, overlaid, ListChanged}
 use Rattle.edit_list.proofs.Splices.{section_spliced}
 
 -- what a change takes out and puts in
@@ -166,11 +166,3 @@ list_spliced new l count place change fits counted found w b =
     let h : place + out k ≤ length l = omega arith in
     let c = changed-length place k l h in
     rw (← t) (section_spliced (take (record_size * put_by change) new) l place k (count - out k + put_by change) fits h (put_bytes_are change new w b) (omega arith))
-
--- Either list has few rules.
-pub most_few : (which : ℕ) → most_in which ≤ limits.own
-most_few which = go (eqb which 0)
-  where
-    go : (b : Bool) → cond b limits.gate limits.own ≤ limits.own
-    go true = omega arith
-    go false = omega arith
