@@ -65,9 +65,6 @@ module _ {s : List ℕ} {l : PairLayout} (c : Checked s l) where
     pub gate_record : i < l.order.gate → count_size + record_size * i + record_size ≤ length s
     gate_record h = omega (arith, c.laid.lists.gate_end, c.laid.lists.own_end, c.laid.lists.inside)
 
-    pub own_record : i < l.order.own → l.order.middle + count_size + record_size * i + record_size ≤ length s
-    own_record h = omega (arith, c.laid.lists.own_end, c.laid.lists.inside)
-
     pub gate_place : i < l.order.gate → rule_in (drop (count_size + record_size * i) s) ≡ place_in q.order.gate i
     gate_place h = sym (rule_in_place i l.order.gate (drop count_size s) (rule [] 0) h ∙ ap rule_in (drop-drop (record_size * i) count_size s))
 

@@ -4,7 +4,6 @@ use mathlib.Core.Path.{◌≡◌, refl, ap, sym, ◌∙◌}
 use mathlib.Core.List.{List}
 use mathlib.Core.Bool.{true, false}
 use Prim.Native.Nat.{ℕ, ◌<◌, ◌≤◌}
-use native.Mathlib.Omega.{arith}
 use lib.ListN.{length}
 use lib.Seq.{sets}
 use Rattle.policy.specs.Fields.{limits, work_size}
@@ -19,13 +18,10 @@ use Rattle.promises.specs.Calls.{work_after, check_of}
 use Rattle.promises.proofs.Calls.{room_short, room_there, work_short, both_there}
 use Rattle.load.specs.Load.{no_load}
 use Rattle.load.specs.Packets.{added_to, hits_in}
-use Rattle.load.specs.Steps.{Bounded, load_value}
+use Rattle.load.specs.Steps.{load_value}
 use Rattle.load.specs.declared.Load.{Load as LoadValue}
 use Rattle.reporting.specs.Report.{places, are_readings, loaded_of, report_of, totals_size, totals_of, hits_size, all_lent, report_call, Reports}
 use Rattle.reporting.proofs.Hits.{hits-length}
-
-pub none_bounded : Bounded no_load
-none_bounded = record { packets = omega arith; before = omega arith; after = omega arith; forwarded = omega arith }
 
 -- what holds of readings holds of what they were made of
 pub lengths_of : {n n' : ℕ} {a a' b b' : List ℕ} → (a ≡ a') × (b ≡ b') × (n ≡ n') → are_readings n a b ≡ true → are_readings n' a' b' ≡ true
