@@ -109,7 +109,8 @@ fn load_all(sheet: CheckedSheet<'_>, packets: &[u8]) -> Result<Load, Refusal>
     load::add_block(Load::none(), packets, TabledSheet::new(sheet, &mut table))
 }
 
-// The report: check, the readings' lengths, the packets; then the totals and the hits at each place of the cell list.
+// The report: check, the readings' lengths, the packets; then the totals and the hits at each place of the cell list. The files and
+// buffers come one by one, as the call for C lends them.
 pub fn report(
     sheet: &[u8],
     packets: &[u8],
