@@ -35,12 +35,6 @@ boxes_turn left next s at count h e =
     let l : left ≡ suc next = omega arith in
     ap (λ (n : ℕ). box_count n (drop at s)) l ∙ boxes-cons next (drop at s) ∙ rw (← e, drop-drop (group_size count) at s)
 
-pub boxes_next : (left : ℕ) (s : List ℕ) (at count : ℕ) → 0 < left → count ≡ count_in (drop at s)
-    → box_count left (drop at s) ≡ count + box_count (left - 1) (drop (at + count_size + box_size * count) s)
-boxes_next left s at count h e =
-    let p : at + (count_size + box_size * count) ≡ at + count_size + box_size * count = omega arith in
-    rw p at (boxes_turn left (left - 1) s at count (omega arith) e)
-
 pub boxes_none : (left : ℕ) (s : List ℕ) → left ≤ 0 → box_count left s ≡ 0
 unfolding groups_from together
 boxes_none zero s h = refl

@@ -21,7 +21,7 @@ use Rattle.sheet.specs.Pairs.{group_size, group_boxes}
 use Rattle.sheet.specs.Steps.{rules_of, groups_from, box_count, pair_at}
 use Rattle.sheet.specs.declared.PairLayout.{PairLayout}
 use Rattle.kept.specs.Steps.{run_size}
-use Rattle.kept.proofs.Runs.{boxes-cons, boxes_next, boxes_none, boxes_behind, groups_front}
+use Rattle.kept.proofs.Runs.{boxes-cons, boxes_turn, boxes_none, boxes_behind, groups_front}
 use Rattle.draft.proofs.Drafts.{rules_front}
 use Rattle.origins.specs.Steps.{Checked, place_in, Denies, front_of, Holds}
 use Rattle.origins.proofs.Searches.{record_regions}
@@ -31,7 +31,7 @@ use Rattle.origins.proofs.Deciding.{gate_proper, own_proper, group_proper}
 run_next : (k : ℕ) (s : List ℕ) (count : ℕ) → count ≡ count_in (drop (run_size k s) s) → run_size (k + 1) s ≡ run_size k s + group_size count
 run_next k s count e =
     let b = boxes_behind k 1 s in
-    let a = boxes_next 1 0 s (run_size k s) count (omega arith) e in
+    let a = boxes_turn 1 0 s (run_size k s) count (omega arith) e in
     let z = boxes_none 0 (drop (run_size k s + (count_size + box_size * count)) s) (omega arith) in
     omega arith
 

@@ -266,9 +266,7 @@ fn put_origin(numbers: &mut [u32], which: u32, rule: usize, number: usize)
     requires { (origin_size ≤ length numbers.old) × (rule < limits.total) × (number < limits.total) }
     ensures { numbers.new ≡ sets numbers.old 0 (which ∷ rule ∷ number ∷ []) }
 {
-    numbers[0] = which;
-    numbers[1] = rule as u32;
-    numbers[2] = number as u32;
+    numbers[..ORIGIN_NUMBERS].copy_from_slice(&[which, rule as u32, number as u32]);
 }
 
 // A trace told: the origin as numbers, and the answer of a lookup in the cell list.

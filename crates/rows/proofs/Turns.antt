@@ -18,7 +18,7 @@ use Rattle.wire.proofs.Records.{boxes_in-length}
 use Rattle.sheet.specs.Pairs.{group_size}
 use Rattle.sheet.specs.Steps.{groups_from, box_count}
 use Rattle.kept.specs.Steps.{run_size}
-use Rattle.kept.proofs.Runs.{boxes_next}
+use Rattle.kept.proofs.Runs.{boxes_turn}
 use Rattle.origins.proofs.Searches.{left_in, later, left_turn}
 use Rattle.rows.specs.Steps.{row_size, row_numbers, rows_numbers}
 use Rattle.rows.proofs.Rows.{row_length, rows-length}
@@ -49,7 +49,7 @@ module _ (s : List ℕ) (start n passed : ℕ) (some : passed < n) (count : ℕ)
   counts : box_count (n - passed) (drop start s) ≡ count + box_count (n - (passed + 1)) (drop next s)
   counts =
       let z : start + (count_size + box_size * count) ≡ next = omega arith in
-      boxes_next (n - passed) (n - (passed + 1)) s start count (omega arith) told ∙ ap (λ (at : ℕ). count + box_count (n - (passed + 1)) (drop at s)) z
+      boxes_turn (n - passed) (n - (passed + 1)) s start count (omega arith) told ∙ ap (λ (at : ℕ). count + box_count (n - (passed + 1)) (drop at s)) z
 
   pub group_there : start + run_size (n - passed) (drop start s) ≤ length s → next + run_size (n - (passed + 1)) (drop next s) ≤ length s
   group_there h = omega (arith, counts)
