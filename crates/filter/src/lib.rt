@@ -15,7 +15,7 @@ use policy::{
 };
 use wire::{count_at, rule_at};
 
-// The rule that decides: its place and its action.
+// The rule that decides: its place, and its action as the record has it, which the number for C is computed with.
 #[derive(Clone, Copy)]
 pub struct Decision {
     pub place: usize,
@@ -56,7 +56,8 @@ pub fn is_inside(p: Packet, bounds: Box) -> bool
 }
 
 // The rules of a list of so many, one after another. A record is tested first. Then its fields are tried from the last, the protocol,
-// to the first, since in a storm most rules miss in protocol or destination port; one outside its range ends the rule.
+// to the first, since in a storm most rules miss in protocol or destination port; one outside its range ends the rule: the loops are
+// labelled, and the inner one is left by `continue` of the outer, which is this lookup's fixed form.
 fn scan(p: Packet, list: &[u8], count: usize) -> Verdict
     requires { length list.now ≡ list_size count }
     ensures { verdict result ≡ look_from 0 (packet_of p) (rules_in count (drop count_size list.now)) }
@@ -80,7 +81,7 @@ fn scan(p: Packet, list: &[u8], count: usize) -> Verdict
     Err(Refusal::NotComplete)
 }
 
-// A list may have at most so many rules.
+// A list may have at most so many rules; another cell filter takes another number.
 pub fn lookup_within(most: usize, p: Packet, list: &[u8]) -> Verdict
     ensures { verdict result ≡ lookup most (packet_of p) list.now }
 {
@@ -103,7 +104,7 @@ pub fn lookup(p: Packet, list: &[u8]) -> Verdict
     lookup_within(TOTAL_MOST, p, list)
 }
 
-// A verdict as one number.
+// A verdict as one number. Not a From, since it asks something of the verdict.
 pub fn verdict_number(v: Verdict) -> u32
     requires { IfOk v InTotal }
     ensures { result ≡ lookup_number (verdict v) }

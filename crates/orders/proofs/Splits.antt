@@ -45,9 +45,6 @@ module _ {s : List ℕ} {r : Answered OrderLayout} (x : OrderRead s r) (l : Orde
   pub gate_fits : length (take middle s) ≤ gate_size
   gate_fits = let p = laid in omega (arith, gate_long)
 
-  pub own_fits : length (take (length s - middle) (drop middle s)) ≤ own_size
-  own_fits = let p = laid in rw (part_from s middle, length-drop middle s) (omega arith)
-
 module _ (s a b : List ℕ) where
   refusing : (f : Refusal) → split_of limits s a b ≡ refused (number_of f) → Split s a b (Err f) a b
   unfolding length_of

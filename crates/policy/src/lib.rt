@@ -34,6 +34,11 @@ pub const PIECES_MOST: usize = 1024;
 
 pub const TOTAL_MOST: usize = 1024;
 
+// The two actions of a rule.
+pub const DENY: u32 = 0;
+
+pub const ALLOW: u32 = 1;
+
 // For C a refusal is this and its number.
 pub const REFUSAL_BASE: u32 = 65536;
 
@@ -62,6 +67,7 @@ pub const FULL: Box = Box {
 #[derive(Clone, Copy)]
 pub struct Rule {
     pub bounds: Box,
+    // A number, since C lends any; number 4 refuses one above 1.
     pub action: u32,
 }
 
@@ -212,17 +218,17 @@ impl Rule {
     pub fn is_sound(self) -> bool
         ensures { result ≡ sound (rule_of self) }
     {
-        self.bounds.is_proper() && self.action <= 1
+        self.bounds.is_proper() && self.action <= ALLOW
     }
 
     pub fn is_allow(self) -> bool
         ensures { result ≡ is_allow (rule_of self) }
     {
-        self.action == 1
+        self.action == ALLOW
     }
 }
 
-// Whether boxes and own rules together are within the total; 7 is given where they are not.
+// Whether boxes and own rules together are within the total; beyond it number 7 is given.
 pub fn has_room(boxes: usize, own: usize) -> bool
     ensures { (result ≡ true → boxes + own ≤ limits.total) × (result ≡ false → limits.total < boxes + own) }
 {

@@ -26,7 +26,7 @@ use Rattle.wire.specs.Records.{record_bytes, rule_in}
 use Rattle.records.specs.Calls.{numbers_size, low_of, high_of, rule_numbers, numbers_rule, reading_of, writing_of, RecordRead, RecordWritten}
 use Rattle.wire.specs.Buffers.{room_for, answered, written}
 use Rattle.wire.proofs.Buffers.{filled_front, refusal_leaves}
-use Rattle.wire.proofs.Records.{fits-length, sound_fits, record_bytes-length, rule_back, record_written_back}
+use Rattle.wire.proofs.Records.{sound-length, fits-length, sound_fits, record_bytes-length, rule_back, record_written_back}
 
 -- The numbers of ranges.
 lows_of : (ls hs : List ℕ) → length ls ≡ length hs → map low_of (ranges ls hs) ≡ ls
@@ -58,9 +58,6 @@ numbers_put out low high a l h =
 numbers-length : (r : Rule) → length r.region ≡ fields → length (rule_numbers r) ≡ numbers_size
 unfolding rule_numbers
 numbers-length r e = rw (length-append, length-append, length-map, length-map, e) refl
-
-sound-length : (r : Rule) → sound r ≡ true → length r.region ≡ fields
-sound-length r h = fits-length widths r.region (sound_fits r h).0
 
 -- Reading, return by return.
 module _ (s ns : List ℕ) where

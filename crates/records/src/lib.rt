@@ -57,7 +57,7 @@ fn put_numbers(numbers: &mut [u32], r: Rule)
     numbers[2 * FIELDS] = r.action;
 }
 
-// A record's bytes to the numbers of its rule.
+// A record's bytes to the numbers of its rule; the answer is 0, as C gets it.
 pub fn rule(bytes: &[u8], numbers: &mut [u32]) -> Answer
     ensures { RecordRead bytes.now numbers.old result numbers.new }
 {

@@ -56,13 +56,13 @@ module _ (most total : ℕ) (s : List ℕ) where
         unfolding groups_in
         there = rw (le-leb count_size (length s) a, ← e, le-leb (total + n) most (omega arith), le-leb (group_size n) (length s) g, k) refl
 
-        pub bad_box : not v ≡ true → GroupsRead most 1 total s (Err RuleBad)
-        bad_box h = gives_refusal RuleBad (there ∙ rw (not-true v h) refl)
+        pub bad_box : v ≡ false → GroupsRead most 1 total s (Err RuleBad)
+        bad_box h = gives_refusal RuleBad (there ∙ rw h refl)
 
-        pub group_read : not v ≡ false → GroupsRead most 1 total s (Ok (record { count = n; next = group_size n }))
+        pub group_read : v ≡ true → GroupsRead most 1 total s (Ok (record { count = n; next = group_size n }))
         unfolding groups_from
         group_read h = record {
-          says = sym (there ∙ rw (not-false v h, e) refl);
+          says = sym (there ∙ rw (h, e) refl);
           laid = record { boxes = e ∙ sym (one_group_lem s); end = omega arith; inside = g; limit = omega arith };
         }
 

@@ -38,9 +38,6 @@ module _ {s : List ℕ} {r : Answered OrderLayout} (x : ListsRead s r) where
     laid : ListsLaid s l
     laid = given_laid x l e
 
-    pub third_inside : third ≤ length s
-    third_inside = laid.inside
-
     pub gate_inside : list_size l.gate ≤ length s
     gate_inside = let p = laid in omega arith
 

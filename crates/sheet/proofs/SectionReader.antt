@@ -66,21 +66,21 @@ module _ (most : ℕ) (s : List ℕ) where
           unfolding section
           there = rw (le-leb count_size (length s) a, ← e, le-leb 1 n b, le-leb n most d, le-leb (list_size n) (length s) g) refl
 
-          pub bad_rule : (v : Bool) → v ≡ every sound (rules_of n s) → not v ≡ true → SectionRead most s (Err RuleBad)
-          bad_rule v k h = gives_refusal RuleBad (there ∙ rw (sym k ∙ not-true v h) refl)
+          pub bad_rule : (v : Bool) → v ≡ every sound (rules_of n s) → v ≡ false → SectionRead most s (Err RuleBad)
+          bad_rule v k h = gives_refusal RuleBad (there ∙ rw (sym k ∙ h) refl)
 
           -- what the code finds of the records and of the last rule
-          module _ (v : Bool) (k : v ≡ every sound (rules_of n s)) (h : not v ≡ false) (u : Bool) (x : Region) (q : u ≡ is_full highest x)
+          module _ (v : Bool) (k : v ≡ every sound (rules_of n s)) (h : v ≡ true) (u : Bool) (x : Region) (q : u ≡ is_full highest x)
               (y : x ≡ box_in (drop (list_size n - record_size) s)) where
             last_is : complete (rules_of n s) ≡ u
             last_is = complete_last n s b ∙ (sym (ap (is_full highest) y) ∙ sym q)
 
-            pub not_full : not u ≡ true → SectionRead most s (Err NotComplete)
-            not_full l = gives_refusal NotComplete (there ∙ rw (sym k ∙ not-false v h, last_is ∙ not-true u l) refl)
+            pub not_full : u ≡ false → SectionRead most s (Err NotComplete)
+            not_full l = gives_refusal NotComplete (there ∙ rw (sym k ∙ h, last_is ∙ l) refl)
 
-            pub section_read : not u ≡ false → SectionRead most s (Ok (record { count = n; next = list_size n }))
+            pub section_read : u ≡ true → SectionRead most s (Ok (record { count = n; next = list_size n }))
             section_read l = record {
-              says = sym (there ∙ rw (sym k ∙ not-false v h, last_is ∙ not-false u l) refl);
+              says = sym (there ∙ rw (sym k ∙ h, last_is ∙ l) refl);
               laid = record { end = refl; inside = g; limit = d };
             }
 

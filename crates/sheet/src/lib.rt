@@ -41,7 +41,7 @@ pub struct OrderLayout {
     pub end: usize,
 }
 
-// Groups: how many boxes they have together and where they end.
+// Groups: how many boxes they have together and where they end. A type beside `Section`, so that none is taken for the other.
 #[derive(Clone, Copy)]
 struct Groups {
     count: usize,
@@ -170,7 +170,7 @@ fn read_group(s: &[u8], total: usize, most: usize) -> Result<Groups, Refusal>
     Ok(Groups { count, next })
 }
 
-// So many groups one after another.
+// So many groups one after another. A group's length stands in its bytes, so the walk counts where it is.
 fn read_groups(s: &[u8], n: usize, own: usize, most: usize) -> Result<Groups, Refusal>
     requires { own ≤ most }
     ensures { GroupsRead most n own s.now result }

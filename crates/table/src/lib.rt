@@ -10,7 +10,8 @@ ghost use Rattle.table.specs.Table.{lookup_table};
 use filter::{Decision, Verdict, is_inside, verdict_number};
 use policy::{Packet, Refusal, Rule, TOTAL_MOST};
 
-// The first rule of a table that has the packet. A rule is tested before its box is.
+// The first rule of a table that has the packet. A rule is tested before its box is. Other than in list bytes the fields that miss are
+// counted (`is_inside`): nowhere is that slower than C over the same structs.
 pub fn lookup(p: Packet, rules: &[Rule]) -> Verdict
     ensures { verdict result ≡ lookup_table limits.total (packet_of p) (map rule_of rules.now) }
 {

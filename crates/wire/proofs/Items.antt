@@ -30,10 +30,6 @@ module _ {A : Type 0} (size : ℕ) (read : List ℕ → A) (s : List ℕ) (start
       let e : left ≡ suc (left - 1) = omega arith in
       ap (λ (n : ℕ). each_in size read n (drop start s)) e ∙ ap (λ (t : List ℕ). read (drop start s) ∷ each_in size read (left - 1) t) (drop-drop size start s)
 
-  pub each_turn : (P : A → Type 0) → Each P (each_in size read left (drop start s)) → P (read (drop start s)) × Each P (each_in size read (left - 1) (drop (start + size) s))
-  unfolding Each
-  each_turn P h = subst (Each P) items_turn h
-
   pub size_turn : size * left ≡ size + size * (left - 1)
   size_turn =
       let e : left ≡ suc (left - 1) = omega arith in

@@ -128,6 +128,9 @@ sound_fits r h =
     let l = sound_action r h in
     (proper_fits r.region (rule_proper r h), omega arith)
 
+pub sound-length : (r : Rule) → sound r ≡ true → length r.region ≡ length widths
+sound-length r h = fits-length widths r.region (sound_fits r h).0
+
 -- What is read from bytes fits them.
 ranges_in-fits : (ws s : List ℕ) → size_of ws ≤ length s → Each Byte s → Fits ws (ranges_in ws s)
 unfolding Fits ranges_in

@@ -42,9 +42,9 @@ fn put_number(out: &mut [u8], at: usize, w: usize, x: u32)
     put_bytes(out, at, &bytes[4 - w..]);
 }
 
-// The range whose two numbers of w bytes begin at `at`, which may be empty. Those of a port are read as one number of four, in one load. Of an address the
-// high is read first, and so the compiler also compares it first: one compare less for a piece that lies below an allow, one more for
-// a piece above it.
+// The range whose two numbers of w bytes begin at `at`, which may be empty. Those of a port are read as one number of four, in one load.
+// Of an address the high is read first, and so the compiler also compares it first: one compare less for a piece that lies below an
+// allow, one more for a piece above it.
 fn range_at(s: &[u8], at: usize, w: usize) -> Range
     requires { (at + w + w ≤ length s.now) × (is_width w ≡ true) }
     ensures { (result.low ≡ number_in (take w (drop at s.now))) × (result.high ≡ number_in (take w (drop (at + w) s.now))) }
@@ -71,6 +71,7 @@ pub fn count_at(s: &[u8], at: usize) -> usize
     number_at(s, at, COUNT_BYTES) as usize
 }
 
+// A count is a usize, as are the lengths that are made of it.
 pub fn put_count(out: &mut [u8], at: usize, n: usize)
     requires { (at + count_size ≤ length out.old) × (n < 65536) }
     ensures { out.new ≡ sets out.old at (number_bytes count_size n) }
@@ -78,7 +79,7 @@ pub fn put_count(out: &mut [u8], at: usize, n: usize)
     put_number(out, at, COUNT_BYTES, n as u32);
 }
 
-// The box whose bytes begin at `at`.
+// The box whose bytes begin at `at`. The fields differ in width, so the walk counts where it is.
 pub fn box_at(s: &[u8], at: usize) -> Box
     requires { at + box_size ≤ length s.now }
     ensures { region_of result ≡ box_in (drop at s.now) }

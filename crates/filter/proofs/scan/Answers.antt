@@ -8,7 +8,7 @@ use Rattle.policy.specs.Rules.{sound}
 use Rattle.policy.specs.Values.{region_of, rule_of}
 use Rattle.policy.specs.declared.Rule.{Rule}
 use Rattle.policy.proofs.Moves.{rule_proper, proper_whole}
-use Rattle.wire.proofs.Records.{sound_fits, fits-length}
+use Rattle.wire.proofs.Records.{sound-length}
 use Rattle.filter.proofs.Insides.{InRange, range_whole, outside_at, all_inside}
 use Rattle.filter.proofs.Lookups.{left_all, bad_rule, rule_fits, rule_misses, none_fits_lem}
 use Rattle.filter.proofs.scan.Goals as goal
@@ -30,7 +30,7 @@ is_within-requires c =
     let value : Rule = c.rule_at-r.result in
     let region : Region = region_of value.bounds in
     let is_sound : sound (rule_of value) ≡ true = search rules in
-    let region_long : length region ≡ fields = fits-length widths region (sound_fits (rule_of value) is_sound).0 in
+    let region_long : length region ≡ fields = sound-length (rule_of value) is_sound in
     let region_whole : Whole region = proper_whole highest region (rule_proper (rule_of value) is_sound) in
     let h = range_whole region (c.fields.k - 1) region_whole (omega (arith, region_long)) in
     subst (λ (r : Range). r.low ≤ r.high) (sym c.range.ensures) h
@@ -40,7 +40,7 @@ rules-preserved c =
     let value : Rule = c.rule_at-r.result in
     let region : Region = region_of value.bounds in
     let is_sound : sound (rule_of value) ≡ true = search rules in
-    let region_long : length region ≡ fields = fits-length widths region (sound_fits (rule_of value) is_sound).0 in
+    let region_long : length region ≡ fields = sound-length (rule_of value) is_sound in
     let packet_long : length c.args.p.values ≡ fields = search rules in
     let missed = sym (c.is_within.ensures ∙ ap (within (get_or c.args.p.values (c.fields.k - 1) 0)) c.range.ensures) ∙ c.if-not-is_within.true in
     let outside = outside_at c.args.p.values region (c.fields.k - 1) (omega (arith, packet_long)) (omega (arith, region_long)) missed in
@@ -57,7 +57,7 @@ returns-in-rules c =
     let value : Rule = c.rule_at-r.result in
     let region : Region = region_of value.bounds in
     let is_sound : sound (rule_of value) ≡ true = search rules in
-    let region_long : length region ≡ fields = fits-length widths region (sound_fits (rule_of value) is_sound).0 in
+    let region_long : length region ≡ fields = sound-length (rule_of value) is_sound in
     let packet_long : length c.args.p.values ≡ fields = search rules in
     rw c.fields.invariant.0 (
     rule_fits c.args.p.values c.args.list.now c.args.count c.rules.i c.rules.invariant c.rules-test.true (rule_of value) c.rule_at-r.ensures is_sound

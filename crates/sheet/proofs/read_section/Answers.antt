@@ -21,9 +21,9 @@ returns-then-not-all_sound c = search (rules, bad_rule)
 pub returns-then-not-is_full : goal.returns-then-not-is_full
 returns-then-not-is_full c =
     not_full _ _ (omega arith) _ c.count_at-count.ensures.0 (omega arith) (omega arith) (omega arith) _
-    c.all_sound.ensures c.if-not-all_sound.false-raw _ _ c.is_full.ensures c.box_at.ensures c.if-not-is_full.true-raw
+    c.all_sound.ensures c.if-not-all_sound.false _ _ c.is_full.ensures c.box_at.ensures c.if-not-is_full.true
 
 pub returns : goal.returns
 returns c =
     section_read _ _ (omega arith) _ c.count_at-count.ensures.0 (omega arith) (omega arith) (omega arith) _
-    c.all_sound.ensures c.if-not-all_sound.false-raw _ _ c.is_full.ensures c.box_at.ensures c.if-not-is_full.false-raw
+    c.all_sound.ensures c.if-not-all_sound.false _ _ c.is_full.ensures c.box_at.ensures c.if-not-is_full.false
