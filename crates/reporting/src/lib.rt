@@ -80,8 +80,9 @@ fn put_hits(hits: &mut [u32], readings: Readings<'_>)
     requires { hits_size ≤ length hits.old }
     ensures { hits.new ≡ filled hits_size hits.old (hits_in readings.entry.places readings.entry.earlier.now readings.entry.later.now) }
 {
-    for place in 0..HITS_NUMBERS {
-        hits[place] = readings.hits_at(place);
+    let front = &mut hits[..HITS_NUMBERS];
+    for (place, hit) in front.iter_mut().enumerate() {
+        *hit = readings.hits_at(place);
     }
 }
 
