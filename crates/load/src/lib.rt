@@ -22,6 +22,8 @@ pub const PACKET_BYTES: usize = BOX_BYTES / 2;
 // The most packets of one report.
 pub const PACKETS_MOST: usize = 1000000;
 
+// How often packets were counted and rules tried. A load may be of any numbers, since its gain is promised of all of them; what an
+// addition needs is said by Bounded.
 #[derive(Clone, Copy)]
 pub struct Load {
     pub packets: u64,
@@ -70,6 +72,7 @@ impl Load {
 }
 
 // Two loads together: neither is of more packets than a report has.
+#[tactic(auto, unfolding(crate::specs::Load::plus))]
 impl Add for Load {
     type Output = Load;
 
@@ -100,7 +103,7 @@ fn common_divisor(a: u64, b: u64) -> u64
     x
 }
 
-// The packet that the bytes begin with.
+// The packet that the bytes begin with. The fields differ in width, so the walk counts where each one begins.
 fn packet_at(s: &[u8]) -> Packet
     requires { packet_size ≤ length s.now }
     ensures { packet_of result ≡ packet_in s.now }
@@ -123,7 +126,8 @@ fn tries_to(place: usize) -> u64
     (place + 2) as u64
 }
 
-// The load of a traced packet. Before the move the cell tries no rule for a packet that the gate drops.
+// The load of a traced packet. Before the move the cell tries no rule for a packet that the gate drops. It is no From, since it asks for
+// small numbers.
 fn load_traced(t: Trace) -> Load
     requires { TraceSmall t }
     ensures { load_value result ≡ trace_load t }
@@ -195,6 +199,7 @@ pub fn add_block(t: Load, block: &[u8], sheet: TabledSheet<'_>) -> Result<Load, 
 }
 
 // Counters roll over on purpose.
+#[tactic(auto, unfolding(crate::specs::Load::hits_between))]
 pub fn hits_between(earlier: u32, later: u32) -> u32
     ensures { result ≡ hits_between earlier later }
 {

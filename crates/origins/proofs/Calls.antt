@@ -1,8 +1,9 @@
--- The call: its two tests, check's refusals, and a trace told; and two outcomes of one call are equal. Assumes nothing.
+-- The call: its test, check's refusals, and a trace told; and two outcomes of one call are equal. Assumes nothing.
 use Rattle.std.specs.Prelude.{Ok, Err}
 use mathlib.Core.Path.{◌≡◌, refl, sym, ◌∙◌}
 use mathlib.Core.List.{List}
 use mathlib.Core.Bool.{true, false}
+use mathlib.Core.Logic.{◌⊎◌, inl, inr}
 use Prim.Native.Nat.{ℕ, ◌<◌, ◌≤◌}
 use native.Mathlib.Omega.{arith}
 use lib.ListN.{length}
@@ -34,11 +35,9 @@ module _ (p : Packet) (s ns w : List ℕ) where
   unfolding origin_call value_of written work_after
   short e = record { answer = rw e refl; numbers = rw e refl; work = rw e refl }
 
-  pub numbers_short : length ns < origin_size → Origins p s ns w (Err BufferShort) ns w
-  numbers_short h = short (room_short origin_size ns _ h)
-
-  pub work_too_short : origin_size ≤ length ns → length w < work_size → Origins p s ns w (Err BufferShort) ns w
-  work_too_short h k = short (work_short origin_size work_size ns w h k)
+  pub lent_short : (length ns < origin_size) ⊎ (origin_size ≤ length ns × length w < work_size) → Origins p s ns w (Err BufferShort) ns w
+  lent_short (inl h) = short (room_short origin_size ns _ h)
+  lent_short (inr h) = short (work_short origin_size work_size ns w h.0 h.1)
 
   module _ (h : origin_size ≤ length ns) (k : work_size ≤ length w) {w' : List ℕ} (clear : w' ≡ zeroed 0 work_size w) where
     lent : both_lent origin_size ns w ≡ true

@@ -178,7 +178,8 @@ impl<'a> Boxes for CheckedSheet<'a> {
 }
 
 // What decides a packet: the rule of A that drops it, the number of the box inside that rule's group and the box's place in the cell
-// list; or the rule of A that it passed, the rule of B that decides, that rule's place in the cell list and its action; or no rule.
+// list; or the rule of A that it passed, the rule of B that decides, that rule's place in the cell list and its action; or no rule. A
+// variant has no ghost field, so the limits of its numbers are said by TraceSmall.
 #[derive(Clone, Copy)]
 pub enum Trace {
     Gate {
@@ -190,12 +191,14 @@ pub enum Trace {
         passed: usize,
         rule: usize,
         place: usize,
+        // The record's number, since the answer is computed with it.
         action: u32,
     },
     Nowhere,
 }
 
-// The number of the first box of a run that has the packet; where none has it, how many there are.
+// The number of the first box of a run that has the packet; where none has it, how many there are. So whoever knows that one has it
+// takes the number as it is, and needs no case for none.
 fn first_of<B: Boxes>(boxes: B, run: Run, p: Packet) -> usize
     requires { Holds B.size B.region_in (B.numbers boxes) run (run_boxes B.region_in (B.numbers boxes) run) }
     ensures { result ≡ box_number (packet_of p) (run_boxes B.region_in (B.numbers boxes) run) }
@@ -261,7 +264,7 @@ pub fn trace_packet<B: Boxes>(boxes: B, p: Packet) -> Trace
     trace_gate(boxes, p, rule)
 }
 
-// Which list it is, the rule's place in it and the box's number, at the front of what is lent.
+// Which list it is, with 0 for A and 1 for B as C gets it, the rule's place in it and the box's number, at the front of what is lent.
 fn put_origin(numbers: &mut [u32], which: u32, rule: usize, number: usize)
     requires { (origin_size ≤ length numbers.old) × (rule < limits.total) × (number < limits.total) }
     ensures { numbers.new ≡ sets numbers.old 0 (which ∷ rule ∷ number ∷ []) }
@@ -269,7 +272,7 @@ fn put_origin(numbers: &mut [u32], which: u32, rule: usize, number: usize)
     numbers[..ORIGIN_NUMBERS].copy_from_slice(&[which, rule as u32, number as u32]);
 }
 
-// A trace told: the origin as numbers, and the answer of a lookup in the cell list.
+// A trace told: the origin as numbers, and the answer of a lookup in the cell list. It is no From, since it asks for small numbers.
 fn tell(t: Trace, numbers: &mut [u32]) -> Answer
     requires { (origin_size ≤ length numbers.old) × TraceSmall t }
     ensures { TraceTold t numbers.old result numbers.new }
@@ -302,10 +305,7 @@ fn tell(t: Trace, numbers: &mut [u32]) -> Answer
 pub fn origin(p: Packet, sheet: &[u8], numbers: &mut [u32], work: &mut [u8]) -> Answer
     ensures { Origins (packet_of p) sheet.now numbers.old work.old result numbers.new work.new }
 {
-    if numbers.len() < ORIGIN_NUMBERS {
-        return Err(Refusal::BufferShort);
-    }
-    if work.len() < WORK_BYTES {
+    if numbers.len() < ORIGIN_NUMBERS || work.len() < WORK_BYTES {
         return Err(Refusal::BufferShort);
     }
     let checked = CheckedSheet::new(sheet, work)?;

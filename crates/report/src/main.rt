@@ -2,6 +2,8 @@
 // are read a block at a time, so that memory does not grow with them, and nothing is printed before the last one is counted.
 #![tactic(auto)]
 
+ghost use Rattle.std.specs.Prelude.{◌≤◌, length, IfOk};
+
 use groups::WORK_BYTES;
 use load::{Load, PACKET_BYTES, PACKETS_MOST};
 use origins::CheckedSheet;
@@ -42,11 +44,12 @@ struct Files<F> {
     later: F,
 }
 
-// Why there is no load of the packets: they are refused, or cannot be read.
+// Why there is no report: a refusal, an argument whose file cannot be opened or read, or an output that cannot be written.
 #[derive(Drop)]
 enum Stop {
     Refused(Refusal),
-    Unread,
+    Unread(usize),
+    Unprinted(io::Error),
 }
 
 impl From<Refusal> for Stop {
@@ -56,8 +59,8 @@ impl From<Refusal> for Stop {
 }
 
 impl From<io::Error> for Stop {
-    fn from(_e: io::Error) -> Stop {
-        Stop::Unread
+    fn from(e: io::Error) -> Stop {
+        Stop::Unprinted(e)
     }
 }
 
@@ -82,15 +85,18 @@ fn open_named<R: Env + fs::Files>(rt: &R, argument: usize) -> Option<R::File> {
     fs::open(rt, path).ok()
 }
 
-fn open_argument<R: Env + fs::Files + Print>(
-    rt: &R,
-    argument: usize,
-) -> io::Result<Option<R::File>> {
-    let file = open_named(rt, argument);
-    if file.is_none() {
-        print_unread(rt, argument)?;
+fn open_argument<R: Env + fs::Files>(rt: &R, argument: usize) -> Result<R::File, Stop> {
+    open_named(rt, argument).ok_or(Stop::Unread(argument))
+}
+
+// Fills the buffer from an argument's file, as far as the file goes; how many bytes are at the buffer's front.
+fn read_argument(file: &mut impl Read, argument: usize, buffer: &mut [u8]) -> Result<usize, Stop>
+    ensures { IfOk result (λ n. n ≤ length buffer.new) }
+{
+    match read_full(file, buffer) {
+        Ok(n) => Ok(n),
+        Err(_e) => Err(Stop::Unread(argument)),
     }
-    Ok(file)
 }
 
 // All blocks added, or as many of them as have more packets than a report may. A block that does not fill the buffer is the last one.
@@ -101,7 +107,7 @@ fn add_all(
 ) -> Result<Load, Stop> {
     let mut sum = Load::none();
     for _ in 0..BLOCKS_MOST {
-        let n = read_full(packets, block)?;
+        let n = read_argument(packets, PACKETS, block)?;
         sum = load::add_block(sum, &block[..n], sheet)?;
         if n < block.len() {
             return Ok(sum);
@@ -140,57 +146,45 @@ fn print_hits(rt: &impl Print, readings: Readings<'_>) -> io::Result<()> {
     Ok(())
 }
 
-fn print_loaded(
-    rt: &(impl Env + Print),
-    packets: &mut impl Read,
-    sheet: CheckedSheet<'_>,
-    readings: Readings<'_>,
-    block: &mut [u8],
-) -> io::Result<()> {
-    let mut table = [0u32; TABLE_NUMBERS];
-    match add_all(packets, TabledSheet::new(sheet, &mut table), block) {
-        Err(Stop::Unread) => print_unread(rt, PACKETS),
-        Err(Stop::Refused(f)) => print_refusal(rt, f),
-        Ok(t) => {
-            print_load(rt, t)?;
-            print_hits(rt, readings)
-        }
-    }
-}
-
 // The lengths of both files of readings, then the packets. One byte more than the readings of the longest list tells that a file is too
 // long.
 fn print_checked<F: Read + Drop>(
-    rt: &(impl Env + Print),
+    rt: &impl Print,
     mut files: Files<F>,
     sheet: CheckedSheet<'_>,
     block: &mut [u8],
-) -> io::Result<()> {
+) -> Result<(), Stop> {
     let mut earlier = [0u8; READINGS_BYTES + 1];
     let mut later = [0u8; READINGS_BYTES + 1];
-    let Ok(e) = read_full(&mut files.earlier, &mut earlier) else {
-        return print_unread(rt, EARLIER);
-    };
-    let Ok(l) = read_full(&mut files.later, &mut later) else {
-        return print_unread(rt, LATER);
-    };
-    match Readings::new(&earlier[..e], &later[..l], sheet.places()) {
-        Err(f) => print_refusal(rt, f),
-        Ok(readings) => print_loaded(rt, &mut files.packets, sheet, readings, block),
-    }
+    let e = read_argument(&mut files.earlier, EARLIER, &mut earlier)?;
+    let l = read_argument(&mut files.later, LATER, &mut later)?;
+    let readings = Readings::new(&earlier[..e], &later[..l], sheet.places())?;
+    let mut table = [0u32; TABLE_NUMBERS];
+    let tabled = TabledSheet::new(sheet, &mut table);
+    let load = add_all(&mut files.packets, tabled, block)?;
+    print_load(rt, load)?;
+    print_hits(rt, readings)?;
+    Ok(())
 }
 
 // The sheet is checked before anything else is read, and the work buffer then holds the blocks.
-fn print_report<F: Read + Drop>(rt: &(impl Env + Print), mut files: Files<F>) -> io::Result<()> {
+fn print_report<F: Read + Drop>(rt: &impl Print, mut files: Files<F>) -> Result<(), Stop> {
     let mut sheet = [0u8; PAIR_BYTES + 1];
     let mut work = [0u8; WORK_BYTES];
-    let Ok(n) = read_full(&mut files.sheet, &mut sheet) else {
-        return print_unread(rt, SHEET);
+    let n = read_argument(&mut files.sheet, SHEET, &mut sheet)?;
+    let checked = CheckedSheet::new(&sheet[..n], &mut work)?;
+    print_checked(rt, files, checked, &mut work)
+}
+
+// All four files are opened first.
+fn run(rt: &(impl Env + fs::Files + Print)) -> Result<(), Stop> {
+    let files = Files {
+        sheet: open_argument(rt, SHEET)?,
+        packets: open_argument(rt, PACKETS)?,
+        earlier: open_argument(rt, EARLIER)?,
+        later: open_argument(rt, LATER)?,
     };
-    match CheckedSheet::new(&sheet[..n], &mut work) {
-        Err(f) => print_refusal(rt, f),
-        Ok(checked) => print_checked(rt, files, checked, &mut work),
-    }
+    print_report(rt, files)
 }
 
 // Whether the program was given this argument.
@@ -203,23 +197,10 @@ fn main(rt: HostRuntime) -> io::Result<()> {
     if !is_given(&rt, LATER) || is_given(&rt, LATER + 1) {
         return println!(rt; "usage: report SHEET PACKETS EARLIER LATER");
     }
-    let Some(sheet) = open_argument(&rt, SHEET)? else {
-        return Ok(());
-    };
-    let Some(packets) = open_argument(&rt, PACKETS)? else {
-        return Ok(());
-    };
-    let Some(earlier) = open_argument(&rt, EARLIER)? else {
-        return Ok(());
-    };
-    let Some(later) = open_argument(&rt, LATER)? else {
-        return Ok(());
-    };
-    let files = Files {
-        sheet,
-        packets,
-        earlier,
-        later,
-    };
-    print_report(&rt, files)
+    match run(&rt) {
+        Ok(()) => Ok(()),
+        Err(Stop::Refused(f)) => print_refusal(&rt, f),
+        Err(Stop::Unread(argument)) => print_unread(&rt, argument),
+        Err(Stop::Unprinted(e)) => Err(e),
+    }
 }

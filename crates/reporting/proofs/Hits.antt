@@ -1,12 +1,12 @@
 -- Hits by place, and how they are put. Assumes nothing.
-use mathlib.Core.Path.{◌≡◌, refl, ap, sym, ◌∙◌}
+use mathlib.Core.Path.{◌≡◌, refl, ap, sym}
 use mathlib.Core.List.{List, [], ◌∷◌, ◌++◌, append_assoc}
 use mathlib.Core.Bool.{true}
 use Prim.Native.Nat.{ℕ, zero, suc, ◌+◌, ◌*◌, ◌-◌, ◌≤◌, ◌<◌}
 use native.Mathlib.Omega.{arith}
 use lib.Dec.{eqb}
 use lib.ListN.{length, get_or, take, drop, replicate, length-append, length-replicate}
-use lib.Seq.{sets, sets-eq, drop-drop}
+use lib.Seq.{drop-drop}
 use borrow.Author.Tests.{eqb-true}
 use Rattle.lists.proofs.Tests.{and_true}
 use Rattle.wire.specs.Numbers.{number_in}
@@ -60,14 +60,10 @@ pub padded_at : (size : ℕ) (l : List ℕ) (i : ℕ) → get_or l i 0 ≡ get_o
 unfolding padded
 padded_at size l i = sym (append_zeros l (size - length l) i)
 
-module _ (size : ℕ) (l : List ℕ) (short : length l ≤ size) where
-  pub padded_length : length (padded size l) ≡ size
-  unfolding padded
-  padded_length = rw (length-append, length-replicate) (omega arith)
+pub padded_length : (size : ℕ) (l : List ℕ) → length l ≤ size → length (padded size l) ≡ size
+unfolding padded
+padded_length size l short = rw (length-append, length-replicate) (omega arith)
 
-  pub padded_filled : (out : List ℕ) → size ≤ length out → sets out 0 (padded size l) ≡ filled size out l
-  unfolding filled padded
-  padded_filled out h =
-      let n = padded_length in
-      let m : 0 + length (padded size l) ≡ size = omega (arith, n) in
-      sets-eq (padded size l) out 0 (omega (arith, n)) ∙ rw m (append_assoc l (replicate (size - length l) 0) (drop size out))
+pub padded_filled : (size : ℕ) (l out : List ℕ) → padded size l ++ drop size out ≡ filled size out l
+unfolding filled padded
+padded_filled size l out = append_assoc l (replicate (size - length l) 0) (drop size out)

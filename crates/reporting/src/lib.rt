@@ -27,14 +27,12 @@ pub const HITS_NUMBERS: usize = TOTAL_MOST;
 pub const READING_BYTES: usize = 4;
 
 // Whether both have a reading for each of so many places, and no byte more.
+#[tactic(auto, unfolding(crate::specs::Report::are_readings))]
 fn are_readings(earlier: &[u8], later: &[u8], places: usize) -> bool
     requires { places ≤ hits_size }
     ensures { result ≡ are_readings places earlier.now later.now }
 {
-    if earlier.len() != READING_BYTES * places {
-        return false;
-    }
-    later.len() == READING_BYTES * places
+    earlier.len() == READING_BYTES * places && later.len() == READING_BYTES * places
 }
 
 // An earlier and a later reading of the counter at each of so many places.
@@ -82,8 +80,9 @@ fn put_hits(hits: &mut [u32], readings: Readings<'_>)
     requires { hits_size ≤ length hits.old }
     ensures { hits.new ≡ filled hits_size hits.old (hits_in readings.entry.places readings.entry.earlier.now readings.entry.later.now) }
 {
-    for place in 0..HITS_NUMBERS {
-        hits[place] = readings.hits_at(place);
+    let front = &mut hits[..HITS_NUMBERS];
+    for (place, hit) in front.iter_mut().enumerate() {
+        *hit = readings.hits_at(place);
     }
 }
 
@@ -122,13 +121,7 @@ pub fn report(
 ) -> Answer
     ensures { Reports sheet.now packets.now earlier.now later.now totals.old hits.old work.old result totals.new hits.new work.new }
 {
-    if totals.len() < TOTALS_NUMBERS {
-        return Err(Refusal::BufferShort);
-    }
-    if hits.len() < HITS_NUMBERS {
-        return Err(Refusal::BufferShort);
-    }
-    if work.len() < WORK_BYTES {
+    if totals.len() < TOTALS_NUMBERS || hits.len() < HITS_NUMBERS || work.len() < WORK_BYTES {
         return Err(Refusal::BufferShort);
     }
     let checked = CheckedSheet::new(sheet, work)?;

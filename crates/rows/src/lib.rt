@@ -29,7 +29,7 @@ const FRONTS: usize = ROW_NUMBERS * (GATE_MOST + TOTAL_MOST);
 // Room for the rows and the fronts.
 pub const TABLE_NUMBERS: usize = FRONTS + (GATE_MOST + 1);
 
-// A sheet that passes check, and the table of its rules.
+// A sheet that passes check, and the table of its rules: plain numbers, as a sheet's bytes are, so that one search goes over both.
 #[derive(Clone, Copy)]
 pub struct TabledSheet<'a> {
     pub sheet: CheckedSheet<'a>,
@@ -69,7 +69,7 @@ fn put_row(table: &mut [u32], at: usize, b: Box)
     }
 }
 
-// The rows of a run of boxes in a sheet's bytes, from `at` on.
+// The rows of a run of boxes in a sheet's bytes, from `at` on. The run says how far apart they are, so the walk counts where it is.
 fn put_rows(table: &mut [u32], at: usize, sheet: &[u8], run: Run)
     requires { (at + row_size * run.count ≤ length table.old) × Holds box_size box_in sheet.now run (run_boxes box_in sheet.now run) }
     ensures { table.new ≡ sets table.old at (rows_numbers (run_boxes box_in sheet.now run)) }
@@ -83,7 +83,7 @@ fn put_rows(table: &mut [u32], at: usize, sheet: &[u8], run: Run)
     }
 }
 
-// The rows of the boxes of n groups, from `at` on.
+// The rows of the boxes of n groups, from `at` on. A group's length stands in its bytes, so the walk counts where it is.
 fn put_groups(table: &mut [u32], at: usize, sheet: &[u8], from: usize, n: usize)
     requires { (from + run_size n (drop from sheet.now) ≤ length sheet.now) × (at + row_size * box_count n (drop from sheet.now) ≤ length table.old) × Each (Each Proper) (groups_from n (drop from sheet.now)) }
     ensures { table.new ≡ sets table.old at (rows_numbers (together (groups_from n (drop from sheet.now)))) }
@@ -103,7 +103,7 @@ fn put_groups(table: &mut [u32], at: usize, sheet: &[u8], from: usize, n: usize)
     }
 }
 
-// The fronts of a sheet's gate rules.
+// The fronts of a sheet's gate rules. A group's length stands in its bytes, so the walk counts where it is.
 fn put_fronts(table: &mut [u32], sheet: CheckedSheet<'_>)
     requires { table_size ≤ length table.old }
     ensures { Fronts (pair_at sheet.entry.layout sheet.entry.bytes.now) table.new }
@@ -152,7 +152,7 @@ fn front_at(table: &[u32], place: usize) -> usize
 }
 
 impl<'a> TabledSheet<'a> {
-    // A sheet whose table is filled in the numbers that are lent.
+    // A sheet with its table in the numbers that are lent: a slice and no array, since more may be lent than the table takes.
     pub fn new(sheet: CheckedSheet<'a>, table: &'a mut [u32]) -> TabledSheet<'a>
         requires { table_size ≤ length table.old }
         ensures { pair_at result.sheet.layout result.sheet.bytes.now ≡ pair_at sheet.entry.layout sheet.entry.bytes.now }

@@ -3,14 +3,11 @@ use mathlib.Core.Path.{sym, ap, ◌∙◌}
 use Rattle.std.proofs.lemmas.Result.{err_from_is_err_and}
 use Rattle.policy.specs.Fields.{limits}
 use Rattle.promises.specs.Calls.{check_of}
-use Rattle.origins.proofs.Calls.{numbers_short, work_too_short, origin_refused, origin_told}
+use Rattle.origins.proofs.Calls.{lent_short, origin_refused, origin_told}
 use Rattle.origins.proofs.origin.Goals as goal
 
 pub returns-then-numbers-lt-ORIGIN_NUMBERS : goal.returns-then-numbers-lt-ORIGIN_NUMBERS
-returns-then-numbers-lt-ORIGIN_NUMBERS c = numbers_short _ _ _ _ c.if-numbers-lt-ORIGIN_NUMBERS.true
-
-pub returns-then-work-lt-WORK_BYTES : goal.returns-then-work-lt-WORK_BYTES
-returns-then-work-lt-WORK_BYTES c = work_too_short _ _ _ _ c.if-numbers-lt-ORIGIN_NUMBERS.false c.if-work-lt-WORK_BYTES.true
+returns-then-numbers-lt-ORIGIN_NUMBERS c = lent_short _ _ _ _ c.then-numbers-lt-ORIGIN_NUMBERS.either
 
 pub returns-in_err-checked : goal.returns-in_err-checked
 returns-in_err-checked c =

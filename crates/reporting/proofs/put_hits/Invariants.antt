@@ -1,6 +1,6 @@
 -- `put_hits` meets its contract. Assumes nothing.
 use mathlib.Core.Path.{◌≡◌}
-use lib.ListN.{length, drop}
+use lib.ListN.{drop}
 use lib.Seq.{sets}
 use Rattle.load.specs.Packets.{hits_in}
 use Rattle.reporting.specs.Report.{hits_size}
@@ -10,4 +10,4 @@ use Rattle.reporting.proofs.put_hits.Given as goal
 abbrev pub invariant-loop-place : goal.invariant-loop-place
 invariant-loop-place l =
     let all = padded hits_size (hits_in l.readings.places l.readings.earlier.now l.readings.later.now) in
-    (length l.hits ≡ length l.initial.hits) × (sets l.hits l.place (drop l.place all) ≡ sets l.initial.hits 0 all)
+    sets l.front l.place (drop l.place all) ≡ sets l.initial.front 0 all

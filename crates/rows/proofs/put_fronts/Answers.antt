@@ -3,10 +3,9 @@ use borrow.Author.Rules.{rules}
 use native.Mathlib.Omega.{arith}
 use mathlib.Core.Path.{◌≡◌, refl, sym, ◌∙◌}
 use mathlib.Core.List.{List}
-use mathlib.Core.Bool.{Bool, true, false, not}
+use mathlib.Core.Bool.{Bool, true, false}
 use Prim.Native.Nat.{ℕ, ◌+◌, ◌*◌, ◌<◌, ◌≤◌}
 use lib.ListN.{length, get_or, set, drop, length-set}
-use borrow.Author.Tests.{not-true, not-false}
 use Rattle.policy.specs.Fields.{box_size, count_size, limits}
 use Rattle.policy.specs.Rules.{Rule, is_allow}
 use Rattle.wire.specs.Lists.{count_in}
@@ -34,12 +33,12 @@ module _ {sheet : List ℕ} {layout : PairLayout} (checked : Checked sheet layou
 
     -- A rule is read: whether it denies.
     module _ (here : k < layout.order.gate) {r : Rule} (read : r ≡ place_in (pair_at layout sheet).order.gate k) {t : Bool} (is : t ≡ is_allow r) where
-      allowed : not t ≡ false → Reached sheet layout (k + 1) boxes start
-      allowed e = reached_allow checked k boxes start reached here read (sym is ∙ not-false t e)
+      allowed : t ≡ true → Reached sheet layout (k + 1) boxes start
+      allowed e = reached_allow checked k boxes start reached here read (sym is ∙ e)
 
-      module _ (e : not t ≡ true) where
+      module _ (e : t ≡ false) where
         denies : is_allow r ≡ false
-        denies = sym is ∙ not-true t e
+        denies = sym is ∙ e
 
         begins : start + count_size ≤ length sheet
         begins = group_begins checked k boxes start reached here read denies
@@ -59,16 +58,16 @@ overflow_cast-table c = let h = few c.args.sheet.checked _ c.loop-k.invariant.1 
 
 pub count_at-count-requires : goal.count_at-count-requires
 count_at-count-requires c =
-    begins c.args.sheet.checked _ c.loop-k.invariant.1 c.loop-k-test.true c.gate_rule.ensures c.is_allow.ensures c.if-not-is_allow.true-raw
+    begins c.args.sheet.checked _ c.loop-k.invariant.1 c.loop-k-test.true c.gate_rule.ensures c.is_allow.ensures c.if-not-is_allow.true
 
 pub overflow_add-start : goal.overflow_add-start
 overflow_add-start c =
-    let h = ends c.args.sheet.checked _ c.loop-k.invariant.1 c.loop-k-test.true c.gate_rule.ensures c.is_allow.ensures c.if-not-is_allow.true-raw c.count_at-count.ensures.0 in
+    let h = ends c.args.sheet.checked _ c.loop-k.invariant.1 c.loop-k-test.true c.gate_rule.ensures c.is_allow.ensures c.if-not-is_allow.true c.count_at-count.ensures.0 in
     search rules
 
 pub overflow_add-start-then-not-is_allow : goal.overflow_add-start-then-not-is_allow
 overflow_add-start-then-not-is_allow c =
-    let h = ends c.args.sheet.checked _ c.loop-k.invariant.1 c.loop-k-test.true c.gate_rule.ensures c.is_allow.ensures c.if-not-is_allow.true-raw c.count_at-count.ensures.0 in
+    let h = ends c.args.sheet.checked _ c.loop-k.invariant.1 c.loop-k-test.true c.gate_rule.ensures c.is_allow.ensures c.if-not-is_allow.true c.count_at-count.ensures.0 in
     search rules
 
 pub loop-k-preserved : goal.loop-k-preserved
@@ -79,12 +78,12 @@ loop-k-preserved c =
     elim c.if-not-is_allow.branch [
       | then-not-is_allow w ↦ (
         l,
-        rw (w.boxes-is, w.start-is) (denied checked _ c.loop-k.invariant.1 c.loop-k-test.true c.gate_rule.ensures c.is_allow.ensures w.if-not-is_allow.true-raw w.count_at-count.ensures.0),
+        rw (w.boxes-is, w.start-is) (denied checked _ c.loop-k.invariant.1 c.loop-k-test.true c.gate_rule.ensures c.is_allow.ensures w.if-not-is_allow.true w.count_at-count.ensures.0),
         s,
       )
       | else-not-is_allow w ↦ (
         l,
-        rw (w.boxes-is, w.start-is) (allowed checked _ c.loop-k.invariant.1 c.loop-k-test.true c.gate_rule.ensures c.is_allow.ensures w.if-not-is_allow.false-raw),
+        rw (w.boxes-is, w.start-is) (allowed checked _ c.loop-k.invariant.1 c.loop-k-test.true c.gate_rule.ensures c.is_allow.ensures w.if-not-is_allow.false),
         s,
       )
     ]

@@ -4,7 +4,6 @@ use native.Mathlib.Omega.{arith}
 use mathlib.Core.Path.{◌≡◌, refl, sym, ◌∙◌}
 use Prim.Native.Nat.{◌+◌, ◌*◌}
 use lib.ListN.{drop}
-use borrow.Author.Tests.{not-true, not-false}
 use Rattle.rows.proofs.Rows.{field_small, field_has, field_misses, row_tried}
 use Rattle.rows.proofs.row_has.Goals as goal
 
@@ -22,7 +21,7 @@ returns-then-not-is_within c =
     let h = c.loop-k in
     let a = c.args in
     field_misses h.k a.table.now (a.at + 2 * h.k) (omega arith) (omega arith) a.p.values (omega arith) _ h.invariant.2
-    (sym c.is_within.ensures ∙ not-true c.is_within.result c.if-not-is_within.true-raw)
+    (sym c.is_within.ensures ∙ c.if-not-is_within.true)
 
 pub loop-k-preserved : goal.loop-k-preserved
 loop-k-preserved c =
@@ -33,7 +32,7 @@ loop-k-preserved c =
     let f = field_small h.k t (a.at + 2 * h.k) (omega arith) (omega arith) h.invariant.1 in (
       search rules,
       rw e f.1,
-      rw e (field_has h.k t (a.at + 2 * h.k) (omega arith) (omega arith) a.p.values (omega arith) _ h.invariant.2 (sym c.is_within.ensures ∙ not-false c.is_within.result c.if-not-is_within.false-raw)),
+      rw e (field_has h.k t (a.at + 2 * h.k) (omega arith) (omega arith) a.p.values (omega arith) _ h.invariant.2 (sym c.is_within.ensures ∙ c.if-not-is_within.false)),
     )
 
 pub returns : goal.returns
