@@ -1,4 +1,5 @@
 // Check: a pair sheet read, its groups drafted anew, and the draft compared with section C.
+// What is lent may be longer than it has to be, and what lies behind is promised too, so that each step asks for the length.
 #![tactic(auto)]
 
 ghost use Rattle.std.specs.Prelude.{◌≡◌, ◌≤◌, length, drop};

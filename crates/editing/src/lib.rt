@@ -2,6 +2,7 @@
 // list made in another buffer and read there, its groups and the room for them, the sheet written, the work buffer cleared. The
 // sheet is not touched before the edit is known to be accepted.
 // A sheet and its layout are two parameters, since the layout tells what the sheet was: a type of both would be wrong once it is written.
+// What is lent may be longer than it has to be, and what lies behind is promised too, so that each step asks for the length.
 #![tactic(auto)]
 
 ghost use Rattle.std.specs.Prelude.{◌≡◌, ◌+◌, ◌≤◌, length};
@@ -43,6 +44,7 @@ fn revise_gate_with(
 }
 
 // The new A has a buffer of its own, since the work buffer is needed for its groups, and of a fixed size, since there is no heap.
+// The buffer is lent by a function of its own: in one function the proof did not close.
 fn revise_gate(
     sheet: &mut [u8],
     old: PairLayout,
@@ -94,6 +96,7 @@ fn revise(sheet: &mut [u8], used: usize, request: Request, new: &[u8], work: &mu
 }
 
 // Edit: a rule put in, taken out or replaced at a place of A or B of a pair sheet of a stated length; the answer is its new length.
+// The buffer and the length of the sheet in it are two parameters, as C lends them.
 pub fn edit(sheet: &mut [u8], used: usize, request: Request, new: &[u8], work: &mut [u8]) -> Answer
     ensures { Edits sheet.old used (asked request new.now) work.old result sheet.new work.new }
 {

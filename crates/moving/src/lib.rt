@@ -1,5 +1,6 @@
 // Move: an order sheet read, all groups of its A drafted, and the pair sheet written if there is room for the boxes. Nothing that is
 // lent is touched before the call is known to be accepted, but the work buffer.
+// What is lent may be longer than it has to be, and what lies behind is promised too, so that each step asks for the length.
 #![tactic(auto)]
 
 ghost use Rattle.std.specs.Prelude.{◌≡◌, ◌≤◌, length};
