@@ -40,10 +40,6 @@ abbrev pub further : ℕ → Result Drafted Refusal → Result Drafted Refusal
 further g (Ok d) = Ok (record { groups = g + d.groups; boxes = d.boxes; end = d.end })
 further g (Err f) = Err f
 
-pub further_none : (r : Result Drafted Refusal) → further 0 r ≡ r
-further_none (Ok d) = ap (λ (k : ℕ). Ok (record { groups = k; boxes = d.boxes; end = d.end })) (omega arith)
-further_none (Err f) = refl
-
 pub further_twice : (g k : ℕ) (r : Result Drafted Refusal) → further g (further k r) ≡ further (g + k) r
 further_twice g k (Ok d) = ap (λ (j : ℕ). Ok (record { groups = j; boxes = d.boxes; end = d.end })) (omega arith)
 further_twice g k (Err f) = refl

@@ -1,7 +1,7 @@
 -- What the group writer and the writing of all groups leave. Assumes nothing.
 use mathlib.Core.Path.{◌≡◌, ap, sym, ◌∙◌}
 use mathlib.Core.List.{List, ◌++◌}
-use Prim.Native.Nat.{ℕ, zero, suc, ◌+◌, ◌*◌, ◌-◌, ◌≤◌}
+use Prim.Native.Nat.{ℕ, zero, suc, ◌+◌, ◌*◌, ◌-◌, ◌≤◌, ◌<◌}
 use native.Mathlib.Omega.{arith}
 use lib.ListN.{length, take, drop, length-drop}
 use lib.Seq.{sets, take_all, take-add, drop-drop, length-sets, length-take-le}
@@ -51,18 +51,18 @@ module _ (first draft sheet : List ℕ) (at from : ℕ) (so_far : sheet ≡ sets
   groups_all h = so_far ∙ ap (sets first at) (take_all from draft (omega (arith, length-drop from draft)))
 
 -- the next of the groups that lie in the draft from a byte on: its count, where it ends, and the groups behind it
-module _ (left next : ℕ) (draft : List ℕ) (from : ℕ) (more : left ≡ next + 1) (laid : Laid left (drop from draft)) (within : from ≤ length draft) where
-  front : Laid (suc next) (drop from draft)
-  front = let e : left ≡ suc next = omega arith in rw e at laid
+module _ {groups done : ℕ} (draft : List ℕ) {from : ℕ} (more : done < groups) (laid : Laid (groups - done) (drop from draft)) (within : from ≤ length draft) where
+  front : Laid (suc (groups - (done + 1))) (drop from draft)
+  front = let e : groups - done ≡ suc (groups - (done + 1)) = omega arith in rw e at laid
 
   pub laid_count : from + count_size ≤ length draft
   unfolding Laid
   laid_count = omega (arith, length-drop from draft, front.0)
 
-  pub laid_next : (n : ℕ) → n ≡ count_in (drop from draft)
-      → (from + count_size + box_size * n ≤ length draft) × Laid next (drop (from + count_size + box_size * n) draft)
+  pub laid_next : {n : ℕ} → n ≡ count_in (drop from draft)
+      → (from + count_size + box_size * n ≤ length draft) × Laid (groups - (done + 1)) (drop (from + count_size + box_size * n) draft)
   unfolding Laid
-  laid_next n e =
+  laid_next {n} e =
       let g : from + group_size (count_in (drop from draft)) ≡ from + count_size + box_size * n = rw (← e) (omega arith) in
       (omega (arith, length-drop from draft, front.1), rw (← g, ← drop-drop (group_size (count_in (drop from draft))) from draft) front.2)
 

@@ -17,6 +17,7 @@ use Rattle.wire.specs.Numbers.{number_bytes}
 use Rattle.wire.specs.Records.{boxes_bytes, rule_in}
 use Rattle.wire.proofs.Numbers.{number_bytes-length}
 use Rattle.groups.specs.Steps.{start_at, allows_at, worked_of, WorkedFrom, WorkedOut}
+use Rattle.groups.proofs.Works.{err_told, ok_told}
 use Rattle.sheet.specs.Pairs.{group_size, group_bytes}
 use Rattle.draft.specs.Steps.{Appended, stretch, Drafting, Bounded, Ready, AllReady, DraftedGroups}
 use Rattle.draft.specs.declared.Drafted.{Drafted}
@@ -37,14 +38,6 @@ appended_in draft at boxes n content y last l h e f =
     }
 
 -- what an answer of the worked-out group says
-err_told : (o : Bool) (f : Refusal) (m : ℕ) → ◌≡◌ {A = Result ℕ Refusal} (Err f) (cond o (Err TooManyPieces) (Ok m)) → (f ≡ TooManyPieces) × (o ≡ true)
-err_told true f m e = (cc, refl)
-err_told false f m e = let z : ◌≡◌ {A = ℕ} 0 1 = cc in absurd (omega arith)
-
-ok_told : (o : Bool) (n m : ℕ) → ◌≡◌ {A = Result ℕ Refusal} (Ok n) (cond o (Err TooManyPieces) (Ok m)) → (o ≡ false) × (n ≡ m)
-ok_told true n m e = let z : ◌≡◌ {A = ℕ} 0 1 = cc in absurd (omega arith)
-ok_told false n m e = (refl, cc)
-
 module _ {ds : List Region} {rules : List ℕ} {i : ℕ} {w w' : List ℕ} where
   pub worked_over : {f : Refusal} → WorkedFrom ds rules i w (Err f) w' → (f ≡ TooManyPieces) × (over limits.pieces ds (allows_at i rules) ≡ true)
   unfolding worked_of
@@ -154,15 +147,3 @@ module _ {start : Region → List Region} {rules : List ℕ} {from to : ℕ} {dr
         ends = tt;
         beyond = x.beyond ∙ g.beyond;
       }
-
--- All rules of a list are ready to be drafted.
-pub all_ready : {list : List ℕ} {gate : ℕ} {draft w : List ℕ} → AllReady list gate draft w → Ready (drop count_size list) 0 gate draft 0 0 w
-all_ready h = record {
-  records = rw length-drop (omega (arith, h.records));
-  rules_sound = h.rules_sound;
-  up_to = omega arith;
-  gate = h.few;
-  room = h.room;
-  start = record { short = omega arith; few = omega arith };
-  work_room = h.work_room;
-}

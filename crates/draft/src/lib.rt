@@ -1,4 +1,5 @@
-// Section C under construction: groups worked out anew, one behind another in a local draft, and written to the sheet from there.
+// Section C under construction: groups worked out anew, one behind another in a local draft, and written to the sheet from there. The
+// draft is an array with its end beside it, since there is no heap.
 #![tactic(auto)]
 
 ghost use Rattle.std.specs.Prelude.{◌≡◌, ◌++◌, ◌+◌, ◌*◌, ◌≤◌, ◌<◌, length, drop};
@@ -110,7 +111,7 @@ pub fn draft_all(
 }
 
 // The draft's groups written one behind another from `at` on, each by the group writer, which is lent the part of the sheet that
-// starts there.
+// starts there. A group's length stands in its bytes, so that the walk counts where it is.
 pub fn put_groups(sheet: &mut [u8], at: usize, groups: usize, draft: &[u8])
     requires { (Laid groups draft.now) × (at + length draft.now ≤ length sheet.old) }
     ensures { sheet.new ≡ sets sheet.old at draft.now }

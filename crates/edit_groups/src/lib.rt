@@ -20,7 +20,8 @@ use promises::Request;
 use sheet::PairLayout;
 
 // Where the groups of an edited A, which has `count` rules, come from: those before `earlier` and those from `later` up to `groups`
-// are kept, and those of the rules from `place` up to `to` are worked out anew between them.
+// are kept, and those of the rules from `place` up to `to` are worked out anew between them. No code reads `count`: the contracts say by
+// it how many rules of the list make up the new A.
 #[derive(Clone, Copy)]
 pub struct Around {
     pub earlier: usize,

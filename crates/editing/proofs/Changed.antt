@@ -1,8 +1,8 @@
 -- A list of a sheet, changed in another buffer: its bytes are those of the changed list, and what reading them gives. Assumes nothing.
 use Rattle.std.specs.Prelude.{Ok}
 use mathlib.Core.Path.{◌≡◌, ap, sym, ◌∙◌}
-use mathlib.Core.List.{List}
-use Prim.Native.Nat.{ℕ, ◌+◌, ◌≤◌, ◌<◌}
+use mathlib.Core.List.{List, [], ◌∷◌, ◌++◌}
+use Prim.Native.Nat.{ℕ, zero, suc, ◌+◌, ◌*◌, ◌-◌, ◌/◌, ◌%◌, ◌≤◌, ◌<◌}
 use native.Mathlib.Omega.{arith}
 use lib.ListN.{length, take, drop}
 use Rattle.lists.specs.Lists.{Each}
@@ -12,7 +12,9 @@ use Rattle.policy.specs.Refusals.{unless}
 use Rattle.policy.proofs.Refused.{list_refusal}
 use Rattle.policy.specs.Edit.{changed}
 use Rattle.policy.proofs.Answers.{unless_accepted}
-use Rattle.wire.specs.Numbers.{Byte}
+use Rattle.lists.proofs.Lists.{each_append}
+use Rattle.wire.specs.Numbers.{Byte, number_bytes}
+use Rattle.wire.proofs.Numbers.{bytes_take, bytes_drop}
 use Rattle.wire.specs.Lists.{list_size, list_bytes}
 use Rattle.wire.proofs.Records.{rules_in-length}
 use Rattle.wire.proofs.Lists.{list_bytes-length}
@@ -24,8 +26,24 @@ use Rattle.sheet.proofs.Accepted.{ListAccepted}
 use Rattle.promises.specs.Edits.{kind_of}
 use Rattle.promises.specs.declared.Change.{Change}
 use Rattle.promises.proofs.Demands.{changed_fits}
-use Rattle.edit_list.specs.Steps.{taken_by, put_by, changed_bytes, ListChanged}
+use Rattle.edit_list.specs.Steps.{taken_by, put_by, spliced, new_bytes, changed_bytes, ListChanged}
 use Rattle.edit_list.proofs.Changes.{ChangeDone, change_done, list_spliced, taken_is, put_is, few, changed-length}
+
+-- A number is written in bytes, and what is made of bytes is bytes.
+number_bytes-each : (w x : ℕ) → Each Byte (number_bytes w x)
+unfolding number_bytes Each
+number_bytes-each zero x = tt
+number_bytes-each (suc w) x = each_append Byte (number_bytes w (x / 256)) (x % 256 ∷ []) (number_bytes-each w (x / 256)) (omega arith, tt)
+
+pub bytes_new : (new s : List ℕ) (n place : ℕ) (change : Change) → Each Byte s → Each Byte new → Each Byte (new_bytes s n place change new)
+unfolding spliced
+bytes_new new s n place change old whole =
+    let part = take (record_size * put_by change) new in
+    let last = drop (count_size + record_size * place + record_size * taken_by change) s in
+    let front = take (record_size * place) (drop count_size s) in
+    each_append Byte (number_bytes count_size (n - taken_by change + put_by change)) (front ++ (part ++ last)) (number_bytes-each count_size (n - taken_by change + put_by change))
+    (each_append Byte front (part ++ last) (bytes_take (record_size * place) (drop count_size s) (bytes_drop count_size s old))
+    (each_append Byte part last (bytes_take (record_size * put_by change) new whole) (bytes_drop (count_size + record_size * place + record_size * taken_by change) s old)))
 
 -- What is known once the changed list stands in the buffer.
 pub record ChangedList (l : List Rule) (n most place : ℕ) (change : Change) (new out out' : List ℕ) (end : ℕ) : Type 0 where

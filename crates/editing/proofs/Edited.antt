@@ -5,7 +5,7 @@ use mathlib.Core.List.{List, ◌++◌, append_assoc}
 use Prim.Native.Nat.{ℕ, ◌+◌, ◌*◌, ◌-◌, ◌≤◌, ◌<◌}
 use native.Mathlib.Omega.{arith}
 use lib.Dec.{ltb}
-use lib.ListN.{length, take, drop, length-append}
+use lib.ListN.{length, take, drop, get_or, length-append}
 use lib.Seq.{take_all, drop_at, length-take-le}
 use borrow.Author.Tests.{lt-ltb, le-ltb}
 use Rattle.lists.proofs.Lists.{drop-sets, three-parts}
@@ -22,12 +22,18 @@ use Rattle.wire.proofs.Lists.{list_rules_lem}
 use Rattle.wire.proofs.Records.{rules_in-length}
 use Rattle.sheet.specs.Orders.{order_in, order_bytes, gate_size, list_in}
 use Rattle.sheet.specs.Pairs.{pair_bytes, pair_size}
-use Rattle.sheet.specs.Steps.{rules_of, order_at, OrderRead, pair_at, groups_from}
+use Rattle.sheet.specs.Steps.{rules_of, order_at, OrderRead, pair_at, groups_from, ListRead}
 use Rattle.sheet.specs.declared.PairLayout.{PairLayout}
 use Rattle.sheet.specs.declared.Section.{Section}
 use Rattle.sheet.proofs.Orders.{order_again}
 use Rattle.sheet.proofs.Pairs.{denies_most}
-use Rattle.sheet.proofs.Accepted.{ListAccepted}
+use Rattle.sheet.proofs.Accepted.{ListAccepted, list_accepted}
+use Rattle.sheet.proofs.Parts.{bytes_of}
+use Rattle.lists.specs.Lists.{Each}
+use Rattle.wire.specs.Numbers.{Byte}
+use Rattle.wire.proofs.Numbers.{bytes_take}
+use mir.Val.{Fits}
+use mir.Syntax.{w8}
 use Rattle.promises.specs.Edits.{Asked, asked, request, kind_of, edit_of, edited_of}
 use Rattle.promises.specs.Steps.{Writes}
 use Rattle.promises.specs.declared.Change.{Change}
@@ -42,7 +48,7 @@ use Rattle.edit_groups.proofs.Settled.{part_is}
 use Rattle.edit_groups.proofs.Slots.{around-length, gate_slots_lem, gate_placed, gate_wide}
 use Rattle.editing.specs.Steps.{Revised}
 use Rattle.editing.proofs.Parts.{list_first, known, own_long, gate_bytes_lem, own_bytes_lem, parts_there, gate_there}
-use Rattle.editing.proofs.Changed.{ChangedList, changed_list, Renewed, list_renewed}
+use Rattle.editing.proofs.Changed.{bytes_new, ChangedList, changed_list, Renewed, list_renewed}
 use Rattle.editing.proofs.Made.{Made}
 use Rattle.editing.proofs.Revised as revised
 
@@ -121,6 +127,15 @@ module _ (sheet : List ℕ) (l : PairLayout) (place : ℕ) (change : Change) (ne
 
     pub gate_refuses : (f : Refusal) → list_in limits.gate t ≡ refused (number_of f) → edited_of limits s (q 0) ≡ refused (number_of f)
     gate_refuses f e = revised.revised_refuses made.read (request 0 place change) new refl n gates.gate_count gate_changed.done.found gate_changed.done.whole made.read.good.gate (l' o.gate) (number_of f) (sym gate_changed.reads ∙ e)
+
+    -- The new A is in bytes of the old one, of the record and of its count.
+    gate_new_bytes : ((i : ℕ) → Fits w8 (get_or sheet i 0)) → Each Byte t
+    gate_new_bytes bytes =
+        let old : Each Byte (list_bytes o.gate) = rw (gate_bytes_lem sheet made.read made.inside) at (bytes_take middle sheet (bytes_of sheet bytes)) in
+        rw gate_changed.done.bytes (bytes_new new (list_bytes o.gate) n place change old made.whole)
+
+    pub gate_accepted : {d : Section} → ((i : ℕ) → Fits w8 (get_or sheet i 0)) → ListRead limits.gate t (Ok d) → ListAccepted limits.gate t d
+    gate_accepted bytes x = list_accepted x (gate_new_bytes bytes) _ refl
 
     module _ {d : Section} (b : ListAccepted limits.gate t d) where
       abbrev n' : ℕ

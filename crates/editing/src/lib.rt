@@ -2,11 +2,11 @@
 // list made in another buffer and read there, its groups and the room for them, the sheet written, the work buffer cleared. The
 // sheet is not touched before the edit is known to be accepted.
 // A sheet and its layout are two parameters, since the layout tells what the sheet was: a type of both would be wrong once it is written.
+// What is lent may be longer than it has to be, and what lies behind is promised too, so that each step asks for the length.
 #![tactic(auto)]
 
-ghost use Rattle.std.specs.Prelude.{◌≡◌, ◌+◌, ◌≤◌, length};
-ghost use Rattle.policy.specs.Fields.{record_size, work_size};
-ghost use Rattle.sheet.specs.Orders.{gate_size};
+ghost use Rattle.std.specs.Prelude.{◌≡◌, ◌≤◌, length};
+ghost use Rattle.policy.specs.Fields.{work_size};
 ghost use Rattle.sheet.specs.Pairs.{pair_size};
 ghost use Rattle.promises.specs.Edits.{asked, Edits};
 ghost use Rattle.editing.specs.Steps.{Revising, Revised};
@@ -21,28 +21,8 @@ use sheet::{GATE_BYTES, PAIR_BYTES, PairLayout};
 // The largest A, and a record more: a new count is tested once it is written.
 const LIST_BYTES: usize = GATE_BYTES + RECORD_BYTES;
 
-// An edit of A: the new A made and read, and its groups made and written.
-fn revise_gate_with(
-    sheet: &mut [u8],
-    old: PairLayout,
-    request: Request,
-    new: &[u8],
-    out: &mut [u8],
-    work: &mut [u8],
-) -> Answer
-    requires { Revising sheet.old old work.old × (request.which ≡ 0) × (gate_size + record_size ≤ length out.old) }
-    ensures { Revised sheet.old old.end (asked request new.now) work.old result sheet.new work.new }
-{
-    let middle = old.order.middle;
-    let used = old.end;
-    let end = change_list(&sheet[..middle], old.order.gate, request, new, out)?;
-    let list = &out[..end];
-    let section = sheet::read_list(list, GATE_MOST)?;
-    let around = find_around(&sheet[..used], old, request, list, section.count);
-    regroup(sheet, old, list, around, work)
-}
-
-// The new A has a buffer of its own, since the work buffer is needed for its groups, and of a fixed size, since there is no heap.
+// An edit of A: the new A made and read, and its groups made and written. The new A has a buffer of its own, since the work buffer is
+// needed for its groups, and of a fixed size, since there is no heap.
 fn revise_gate(
     sheet: &mut [u8],
     old: PairLayout,
@@ -53,8 +33,14 @@ fn revise_gate(
     requires { Revising sheet.old old work.old × (request.which ≡ 0) }
     ensures { Revised sheet.old old.end (asked request new.now) work.old result sheet.new work.new }
 {
+    let middle = old.order.middle;
+    let used = old.end;
     let mut out = [0u8; LIST_BYTES];
-    revise_gate_with(sheet, old, request, new, &mut out, work)
+    let end = change_list(&sheet[..middle], old.order.gate, request, new, &mut out)?;
+    let list = &out[..end];
+    let section = sheet::read_list(list, GATE_MOST)?;
+    let around = find_around(&sheet[..used], old, request, list, section.count);
+    regroup(sheet, old, list, around, work)
 }
 
 // An edit of B: the new B made in the work buffer and read there, and put where the old one was. Every group is kept, so that
@@ -94,6 +80,7 @@ fn revise(sheet: &mut [u8], used: usize, request: Request, new: &[u8], work: &mu
 }
 
 // Edit: a rule put in, taken out or replaced at a place of A or B of a pair sheet of a stated length; the answer is its new length.
+// The buffer and the length of the sheet in it are two parameters, as C lends them.
 pub fn edit(sheet: &mut [u8], used: usize, request: Request, new: &[u8], work: &mut [u8]) -> Answer
     ensures { Edits sheet.old used (asked request new.now) work.old result sheet.new work.new }
 {

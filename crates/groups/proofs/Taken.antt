@@ -12,11 +12,14 @@ use Rattle.policy.specs.Ranges.{Region}
 use Rattle.policy.specs.Rules.{Proper}
 use Rattle.policy.specs.Demands.{Piece}
 use Rattle.policy.specs.Cut.{cut, cut_each}
+use Rattle.policy.specs.declared.Refusal.TheVariants.{TooManyPieces}
 use Rattle.policy.proofs.Cuts.{cut_inside}
 use Rattle.policy.proofs.Moves.{proper_whole}
 use Rattle.policy.proofs.Proper.{proper_piece}
 use Rattle.wire.specs.Records.{box_bytes, boxes_bytes, boxes_in, Fits}
 use Rattle.wire.proofs.Records.{boxes_bytes-length, boxes_in-length, boxes_back}
+use borrow.Author.Tests.{lt-ltb, le-ltb}
+use Rattle.std.specs.Prelude.{Ok, Err}
 use Rattle.groups.specs.Steps.{capacity, half_size, Stored, Stands, Untouched, Taken}
 use Rattle.groups.proofs.Stores.{drop-store, store_fits}
 use Rattle.groups.proofs.Pieces.{proper_all, bytes_before}
@@ -52,8 +55,8 @@ module _ {pieces : List ℕ} {n : ℕ} {a : Region} {first : ℕ} {out out' : Li
   behind = ap (drop half_size) s.bytes ∙ drop-store out first later later_fits
 
   -- More than a half holds: they are not copied back.
-  pub taken_over : capacity < m → Taken n a pieces out pieces out' m
-  taken_over h = record { count = counted; boxes = λ k. absurd (omega arith); bytes = λ k. absurd (omega arith); beyond = behind }
+  pub taken_over : capacity < m → Taken n a pieces out pieces out' (Err TooManyPieces)
+  taken_over h = record { answer = rw (lt-ltb capacity (length all) (omega (arith, counted))) refl; boxes = tt; bytes = tt; beyond = behind }
 
   module _ (h : m ≤ capacity) where
     abbrev from : ℕ
@@ -91,16 +94,16 @@ module _ {pieces : List ℕ} {n : ℕ} {a : Region} {first : ℕ} {out out' : Li
           (sym (append_assoc (boxes_bytes (take first (boxes_in n pieces))) (boxes_bytes later) (drop size (drop from pieces)))
           ∙ ap (λ (l : List ℕ). l ++ drop size (drop from pieces)) (sym (ap boxes_bytes u.left ∙ bytes-append box_bytes (take first (boxes_in n pieces)) later)))
 
-      pub taken : Taken n a pieces out whole out' m
+      pub taken : Taken n a pieces out whole out' (Ok m)
       taken = record {
-        count = counted;
-        boxes = λ _. ap (λ (k : ℕ). boxes_in k whole) counted ∙ rw lies (boxes_back all (drop size (drop from pieces)) all_fits);
-        bytes = λ _. rw lies (take_at (boxes_bytes all) (drop size (drop from pieces)) (box_size * m) all-length);
+        answer = rw (le-ltb capacity (length all) (omega (arith, counted)), ← counted) refl;
+        boxes = ap (λ (k : ℕ). boxes_in k whole) counted ∙ rw lies (boxes_back all (drop size (drop from pieces)) all_fits);
+        bytes = rw lies (take_at (boxes_bytes all) (drop size (drop from pieces)) (box_size * m) all-length);
         beyond = behind;
       }
 
     -- Where none is stored behind those that stayed, nothing has to be copied.
-    pub taken_none : m ≤ first → Taken n a pieces out pieces out' m
+    pub taken_none : m ≤ first → Taken n a pieces out pieces out' (Ok m)
     taken_none q =
         let e : size ≡ 0 = omega arith in
         let same : take from pieces ++ (take size (drop from out') ++ drop size (drop from pieces)) ≡ pieces = rw e (take-append-drop from pieces) in

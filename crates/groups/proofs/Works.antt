@@ -1,25 +1,26 @@
 -- The loop over the rules before a deny rule: what it knows at place j, and what one allow does. Assumes nothing.
-use mathlib.Core.Path.{◌≡◌, ap, sym, ◌∙◌}
+use mathlib.Core.Path.{◌≡◌, refl, ap, sym, ◌∙◌}
 use mathlib.Core.List.{List, [], ◌∷◌}
-use mathlib.Core.Bool.{true, false}
+use mathlib.Core.Bool.{Bool, true, false, cond}
 use Prim.Native.Nat.{ℕ, ◌+◌, ◌*◌, ◌<◌, ◌≤◌}
 use native.Mathlib.Omega.{arith}
 use native.Mathlib.Numerals.{add-one}
 use lib.ListN.{length, drop, drop_of_length-le}
 use lib.Seq.{drop-cons}
-use borrow.Author.Tests.{lt-ltb, le-ltb}
+use borrow.Author.Tests.{ltb-false}
 use Rattle.lists.specs.Lists.{every}
 use Rattle.lists.proofs.Lists.{every_at}
 use Rattle.policy.specs.Fields.{record_size, limits}
 use Rattle.policy.specs.Ranges.{Region}
 use Rattle.policy.specs.Rules.{Rule, rule, Proper, sound, is_allow, allows_in}
-use Rattle.policy.specs.Cut.{cut_each, group}
+use Rattle.policy.specs.Cut.{group}
 use Rattle.policy.specs.Move.{over}
 use Rattle.policy.proofs.Moves.{rule_proper}
 use Rattle.wire.specs.Records.{boxes_bytes, boxes_in, rule_in, rules_in}
 use Rattle.wire.proofs.Records.{boxes_in-length, rules_in-length, rule_in_place}
 use Rattle.groups.specs.Steps.{allows_at, worked_of, AllTaken, capacity, half_size, Stands, Taken}
-use Rattle.std.specs.Prelude.{Ok, Err}
+use Rattle.std.specs.Prelude.{Result, Ok, Err}
+use Rattle.policy.specs.declared.Refusal.{Refusal}
 use Rattle.policy.specs.declared.Refusal.TheVariants.{TooManyPieces}
 use Rattle.groups.proofs.Taken.{cut_each-proper}
 
@@ -42,6 +43,15 @@ module _ (rules : List ℕ) (i j : ℕ) (t : j < i) {r : Rule} (e : r ≡ rule_i
   pub left_allow : is_allow r ≡ true → allows_in (drop j (rules_in i rules)) ≡ r.region ∷ allows_in (drop (j + 1) (rules_in i rules))
   unfolding allows_in
   left_allow h = rw (left, h)
+
+-- What an answer tells of whether number 6 came of it.
+pub err_told : (o : Bool) (f : Refusal) (m : ℕ) → ◌≡◌ {A = Result ℕ Refusal} (Err f) (cond o (Err TooManyPieces) (Ok m)) → (f ≡ TooManyPieces) × (o ≡ true)
+err_told true f m e = (cc, refl)
+err_told false f m e = let z : ◌≡◌ {A = ℕ} 0 1 = cc in absurd (omega arith)
+
+pub ok_told : (o : Bool) (n m : ℕ) → ◌≡◌ {A = Result ℕ Refusal} (Ok n) (cond o (Err TooManyPieces) (Ok m)) → (o ≡ false) × (n ≡ m)
+ok_told true n m e = let z : ◌≡◌ {A = ℕ} 0 1 = cc in absurd (omega arith)
+ok_told false n m e = (refl, cc)
 
 -- At rule j: the pieces that stand and the allows left to take come to what the start and all allows come to, number 6 included.
 pub record Working (start : List Region) (rules : List ℕ) (i : ℕ) (pieces₀ out₀ pieces out : List ℕ) (n j : ℕ) : Type 0 where
@@ -66,32 +76,35 @@ module _ {start : List Region} {rules : List ℕ} {i : ℕ} {pieces₀ out₀ pi
       number = rw (left_deny rules i j t e h) at g.number;
     }
 
-    -- The rule is an allow: every piece was cut by it.
-    module _ (h : is_allow r ≡ true) {pieces' out' : List ℕ} {m : ℕ} (k : Taken n r.region pieces out pieces' out' m) where
+    -- The rule is an allow, taken from every piece.
+    module _ (h : is_allow r ≡ true) {pieces' out' : List ℕ} where
       -- More than number 6 allows are left.
-      pub working_over : capacity < m → AllTaken start rules i out₀ pieces' out' (Err TooManyPieces)
+      pub working_over : {f : Refusal} → Taken n r.region pieces out pieces' out' (Err f) → AllTaken start rules i out₀ pieces' out' (Err f)
       unfolding over worked_of
-      working_over q =
-          let o : over capacity (boxes_in n pieces) (allows_in (drop j (rules_in i rules))) ≡ true = rw (left_allow rules i j t e h, lt-ltb capacity (length (cut_each (boxes_in n pieces) r.region)) (omega (arith, k.count))) in
-          record { answer = rw (← g.number, o); few = tt; boxes = tt; beyond = k.beyond ∙ g.beyond }
+      working_over {f} k =
+          let w = err_told _ f _ k.answer in
+          let o : over capacity (boxes_in n pieces) (allows_in (drop j (rules_in i rules))) ≡ true = rw (left_allow rules i j t e h, w.1) refl in
+          record { answer = rw (← g.number, o, w.0) refl; few = tt; boxes = tt; beyond = k.beyond ∙ g.beyond }
 
-      pub working_next : m ≤ capacity → Proper r.region → length pieces' ≡ length pieces → length out' ≡ length out → Working start rules i pieces₀ out₀ pieces' out' m (j + 1)
+      pub working_next : {m : ℕ} → Taken n r.region pieces out pieces' out' (Ok m) → Proper r.region → length pieces' ≡ length pieces → length out' ≡ length out
+          → Working start rules i pieces₀ out₀ pieces' out' m (j + 1)
       unfolding group over
-      working_next q p l l' =
-          let b = k.boxes q in
+      working_next {m} k p l l' =
+          let w = ok_told _ m _ k.answer in
+          let b = k.boxes in
           record {
-            few = q;
+            few = omega (arith, w.1, ltb-false _ _ w.0);
             wide = l ∙ g.wide;
             out_wide = l' ∙ g.out_wide;
             stands = record {
               each = rw b (cut_each-proper (boxes_in n pieces) r.region g.stands.each p);
-              written = k.bytes q ∙ ap boxes_bytes (sym b);
+              written = k.bytes ∙ ap boxes_bytes (sym b);
             };
             beyond = k.beyond ∙ g.beyond;
             boxes = rw b (rw (left_allow rules i j t e h) at g.boxes);
             number =
                 rw b
-                (rw (left_allow rules i j t e h, le-ltb capacity (length (cut_each (boxes_in n pieces) r.region)) (omega (arith, k.count))) at g.number);
+                (rw (left_allow rules i j t e h, w.0) at g.number);
           }
 
   -- Every rule before the deny rule has been looked at.

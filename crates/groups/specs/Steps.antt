@@ -77,13 +77,13 @@ pub record Stored (out : List ℕ) (m : ℕ) (bs : List Region) (out' : List ℕ
 abbrev pub LaterStand : ℕ → Region → List ℕ → Type 0
 LaterStand k b piece = drop (size_of (take k widths)) piece ≡ ranges_bytes (drop k widths) (drop k b)
 
--- A cut of a piece that has come to field k, where `own` is the rest's range.
-pub record CutAt (piece : List ℕ) (k : ℕ) (own : RangeValue) (done : Underway) (out : List ℕ) : Type 0 where
+-- A cut of a piece that has come to field k, where `here` is the rest's range.
+pub record CutAt (piece : List ℕ) (k : ℕ) (here : RangeValue) (done : Underway) (out : List ℕ) : Type 0 where
   pub room : half_size ≤ length out
   pub few : done.stored + 1 < stored_most
   pub long : length piece ≡ box_size
   pub inside : k < fields
-  pub range : range_of own ≡ range_at (region_of done.rest) k
+  pub range : range_of here ≡ range_at (region_of done.rest) k
   pub later : LaterStand (k + 1) (region_of done.rest) piece
 
 -- What the cut of one field leaves: its two parts stored, and the rest with the shared range there.
@@ -107,11 +107,11 @@ pub record Untouched (n : ℕ) (pieces : List ℕ) (a : Region) (i : ℕ) : Type
   pub upto : i ≤ n
   pub left : cut_each (boxes_in n pieces) a ≡ take i (boxes_in n pieces) ++ cut_each (drop i (boxes_in n pieces)) a
 
--- What taking an allow from all pieces leaves: how many there are, and unless they are too many, they stand at the front.
-pub record Taken (n : ℕ) (a : Region) (pieces out pieces' out' : List ℕ) (r : ℕ) : Type 0 where
-  pub count : r ≡ length (cut_each (boxes_in n pieces) a)
-  pub boxes : r ≤ capacity → boxes_in r pieces' ≡ cut_each (boxes_in n pieces) a
-  pub bytes : r ≤ capacity → take (box_size * r) pieces' ≡ boxes_bytes (cut_each (boxes_in n pieces) a)
+-- What taking an allow from all pieces leaves: number 6, or how many there are, which then stand at the front.
+pub record Taken (n : ℕ) (a : Region) (pieces out pieces' out' : List ℕ) (r : Result ℕ Refusal) : Type 0 where
+  pub answer : r ≡ cond (ltb capacity (length (cut_each (boxes_in n pieces) a))) (Err TooManyPieces) (Ok (length (cut_each (boxes_in n pieces) a)))
+  pub boxes : IfOk r (λ m. boxes_in m pieces' ≡ cut_each (boxes_in n pieces) a)
+  pub bytes : GroupStands (cut_each (boxes_in n pieces) a) pieces' r
   pub beyond : drop half_size out' ≡ drop half_size out
 
 -- What taking the allows before place i from a start leaves.

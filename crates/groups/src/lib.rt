@@ -1,5 +1,6 @@
 // The group of a deny rule. The first half of the work buffer holds the pieces; what an allow leaves of them is stored in the
-// second half, and then copied back. How many pieces there are goes beside the half, since a call asks for no memory.
+// second half, and then copied back. How many pieces there are goes beside the half, since a call asks for no memory; and a type of
+// both would tell what stands in the half by a ghost field beside a `&mut`, which the check does not take.
 #![tactic(auto)]
 
 ghost use Rattle.std.specs.Prelude.{◌≡◌, ◌∷◌, [], true, ◌+◌, ◌*◌, ◌≤◌, ◌<◌, length, take, drop};
@@ -43,29 +44,29 @@ fn store_part(piece: &[u8], k: usize, part: Box, out: &mut [u8], m: usize) -> us
     m + 1
 }
 
-// Field k of the cut of a piece, whose range there is `own`: the part below the allow's range and the part above it stored, where there
+// Field k of the cut of a piece, whose range there is `range`: the part below the allow's range and the part above it stored, where there
 // are such, and the rest narrowed to the shared range.
 fn cut_field(
     piece: &[u8],
     k: usize,
-    own: Range,
+    range: Range,
     allow: Range,
     done: Underway,
     out: &mut [u8],
 ) -> Underway
-    requires { CutAt piece.now k own done out.old }
+    requires { CutAt piece.now k range done out.old }
     ensures { FieldCut k allow done out.old out.new result }
 {
     let rest = done.rest;
     let mut stored = done.stored;
-    if own.low < allow.low {
+    if range.low < allow.low {
         stored = store_part(piece, k + 1, rest.low_part(k, allow.low), out, stored);
     }
-    if allow.high < own.high {
+    if allow.high < range.high {
         stored = store_part(piece, k + 1, rest.high_part(k, allow.high), out, stored);
     }
-    let low = own.low.max(allow.low);
-    let high = own.high.min(allow.high);
+    let low = range.low.max(allow.low);
+    let high = range.high.min(allow.high);
     let rest = rest.narrow(k, Range { low, high });
     Underway { rest, stored }
 }
@@ -129,8 +130,8 @@ fn cut_pieces(pieces: &[u8], first: usize, n: usize, a: Box, out: &mut [u8]) -> 
     m
 }
 
-// An allow taken from each of n pieces; how many are then there.
-fn take_allow(pieces: &mut [u8], n: usize, a: Box, out: &mut [u8]) -> usize
+// An allow taken from each of n pieces: how many are then there; or number 6.
+fn take_allow(pieces: &mut [u8], n: usize, a: Box, out: &mut [u8]) -> Result<usize, Refusal>
     requires room { (half_size ≤ length out.old) × (half_size ≤ length pieces.old) × (n ≤ capacity) }
     requires standing { Stands n pieces.old × Proper (region_of a) }
     ensures { Taken n (region_of a) pieces.old out.old pieces.new out.new result }
@@ -138,7 +139,7 @@ fn take_allow(pieces: &mut [u8], n: usize, a: Box, out: &mut [u8]) -> usize
     let first = first_touched(pieces, n, a);
     let m = cut_pieces(pieces, first, n, a, out);
     if PIECES_MOST < m {
-        return m;
+        return Err(Refusal::TooManyPieces);
     }
     // Mostly an allow touches no piece, and to copy nothing takes longer than this test.
     if first < m {
@@ -146,7 +147,7 @@ fn take_allow(pieces: &mut [u8], n: usize, a: Box, out: &mut [u8]) -> usize
         let end = BOX_BYTES * m;
         pieces[from..end].copy_from_slice(&out[from..end]);
     }
-    m
+    Ok(m)
 }
 
 // What the group of the deny rule at place i starts with, put at the front of the pieces; how many boxes that is.
@@ -175,10 +176,7 @@ fn take_allows(
     for j in 0..i {
         let rule = wire::rule_at(rules, RECORD_BYTES * j);
         if rule.is_allow() {
-            left = take_allow(pieces, left, rule.bounds, out);
-            if PIECES_MOST < left {
-                return Err(Refusal::TooManyPieces);
-            }
+            left = take_allow(pieces, left, rule.bounds, out)?;
         }
     }
     Ok(left)

@@ -15,7 +15,7 @@ pub struct Gap {
     pub boxes: usize,
 }
 
-// How many boxes the first n groups have.
+// How many boxes the first n groups have. A group's length stands in its bytes, so that the walk counts where it is.
 pub fn count_boxes(s: &[u8], n: usize) -> usize
     requires { run_size n s.now ≤ length s.now }
     ensures { result ≡ box_count n s.now }

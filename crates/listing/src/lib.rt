@@ -30,7 +30,8 @@ fn deny_boxes(out: &mut [u8], at: usize, sheet: &[u8], from: usize, n: usize)
     }
 }
 
-// The boxes of so many groups, which the sheet has from `from` on, as deny records in the list from `at` on.
+// The boxes of so many groups, which the sheet has from `from` on, as deny records in the list from `at` on. A group's
+// length stands in its bytes, so that the walk counts where it is.
 fn deny_groups(out: &mut [u8], at: usize, sheet: &[u8], from: usize, groups: usize)
     requires { (from + (count_size * groups + box_size * box_count groups (drop from sheet.now)) ≤ length sheet.now) × (at + record_size * box_count groups (drop from sheet.now) ≤ length out.old) }
     ensures { out.new ≡ sets out.old at (group_records groups (drop from sheet.now)) }
@@ -46,7 +47,8 @@ fn deny_groups(out: &mut [u8], at: usize, sheet: &[u8], from: usize, groups: usi
     }
 }
 
-// The cell list of a pair sheet of this layout, and zeros behind it; its length.
+// The cell list of a pair sheet of this layout, and zeros behind it; its length. No other step takes both sheet and layout, so that a type
+// of both would be made only to be taken apart here.
 fn put_cell_list(out: &mut [u8], sheet: &[u8], layout: PairLayout) -> usize
     requires { PairLaid sheet.now layout × (cell_list_size ≤ length out.old) }
     ensures { ListPut (cell_bytes (pair_at layout sheet.now)) cell_list_size out.old result out.new }

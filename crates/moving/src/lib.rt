@@ -1,12 +1,13 @@
 // Move: an order sheet read, all groups of its A drafted, and the pair sheet written if there is room for the boxes. Nothing that is
 // lent is touched before the call is known to be accepted, but the work buffer.
+// What is lent may be longer than it has to be, and what lies behind is promised too, so that each step asks for the length.
 #![tactic(auto)]
 
 ghost use Rattle.std.specs.Prelude.{◌≡◌, ◌≤◌, length};
 ghost use Rattle.policy.specs.Fields.{work_size};
 ghost use Rattle.wire.specs.Buffers.{filled};
 ghost use Rattle.sheet.specs.Pairs.{pair_size};
-ghost use Rattle.draft.specs.Steps.{draft_size, sheet_of};
+ghost use Rattle.draft.specs.Steps.{sheet_of};
 ghost use Rattle.promises.specs.Calls.{Moves};
 ghost use Rattle.moving.specs.Steps.{PairPut, Planned};
 
@@ -29,26 +30,19 @@ fn put_pair(sheet: &mut [u8], order: &[u8], groups: usize, draft: &[u8]) -> usiz
     end
 }
 
-// The order sheet read, its groups drafted (6), the room for them tested (7), and the pair sheet written.
-fn plan_with(order: &[u8], sheet: &mut [u8], draft: &mut [u8], work: &mut [u8]) -> Answer
-    requires { (pair_size ≤ length sheet.old) × (draft_size ≤ length draft.old) × (work_size ≤ length work.old) }
-    ensures { Planned order.now sheet.old work.old result sheet.new work.new }
-{
-    let layout = sheet::read_order(order)?;
-    let drafted = draft::draft_all(order, layout.gate, draft, work)?;
-    if !policy::has_room(drafted.boxes, layout.own) {
-        return Err(Refusal::TooManyBoxes);
-    }
-    Ok(put_pair(sheet, order, drafted.groups, &draft[..drafted.end]))
-}
-
-// The draft is local: what is lent is written only once the move is accepted.
+// The order sheet read, its groups drafted (6), the room for them tested (7), and the pair sheet written. The draft is local, since what
+// is lent is written only once the move is accepted, and an array with its end beside it, since there is no heap.
 fn plan(order: &[u8], sheet: &mut [u8], work: &mut [u8]) -> Answer
     requires { (pair_size ≤ length sheet.old) × (work_size ≤ length work.old) }
     ensures { Planned order.now sheet.old work.old result sheet.new work.new }
 {
+    let layout = sheet::read_order(order)?;
     let mut draft = [0u8; DRAFT_BYTES];
-    plan_with(order, sheet, &mut draft, work)
+    let drafted = draft::draft_all(order, layout.gate, &mut draft, work)?;
+    if !policy::has_room(drafted.boxes, layout.own) {
+        return Err(Refusal::TooManyBoxes);
+    }
+    Ok(put_pair(sheet, order, drafted.groups, &draft[..drafted.end]))
 }
 
 // Move: an order sheet in, its pair sheet out; the answer is the pair sheet's length.

@@ -1,4 +1,5 @@
 -- `compare` meets its contract. Assumes nothing.
+use native.Mathlib.Omega.{arith}
 use mathlib.Core.Path.{refl}
 use Rattle.std.proofs.lemmas.Result.{err_from_is_err_and}
 use Rattle.checking.proofs.Drafting.{draft_ready}
@@ -11,7 +12,7 @@ returns-in_err-layout c =
     rw (refused.1, refused.2) (check_refused c.in_err-layout.ensures, refl)
 
 pub draft_all-requires : goal.draft_all-requires
-draft_all-requires c = draft_ready (pair_read c.in_ok-layout.ensures c.type_inv.sheet) _ _ c.requires.0 c.requires.1
+draft_all-requires c = draft_ready (pair_read c.in_ok-layout.ensures c.type_inv.sheet) _ _ (omega arith) c.requires
 
 pub returns-in_err-drafted : goal.returns-in_err-drafted
 returns-in_err-drafted c =
@@ -23,10 +24,10 @@ pub returns-then-not-is_same : goal.returns-then-not-is_same
 returns-then-not-is_same c =
     let read = pair_read c.in_ok-layout.ensures c.type_inv.sheet in
     let x = c.in_ok-drafted.ensures in
-    (check_differs read x c.requires.0 c.is_same.ensures c.if-not-is_same.true, x.beyond)
+    (check_differs read x (omega arith) c.is_same.ensures c.if-not-is_same.true, x.beyond)
 
 pub returns : goal.returns
 returns c =
     let read = pair_read c.in_ok-layout.ensures c.type_inv.sheet in
     let x = c.in_ok-drafted.ensures in
-    (check_passes read x c.requires.0 c.is_same.ensures c.if-not-is_same.false, x.beyond)
+    (check_passes read x (omega arith) c.is_same.ensures c.if-not-is_same.false, x.beyond)

@@ -12,27 +12,27 @@ use Rattle.draft.proofs.put_groups.Goals as goal
 pub count_at-n-requires : goal.count_at-n-requires
 count_at-n-requires c =
     let h = c.loop in
-    laid_count (c.args.groups - h.counter) (c.args.groups - (h.counter + 1)) c.args.draft.now h.from (omega arith) h.invariant.2 h.invariant.0
+    laid_count c.args.draft.now (omega arith) h.invariant.2 h.invariant.0
 
 pub slice_bounds-put_group-end-in-loop : goal.slice_bounds-put_group-end-in-loop
 slice_bounds-put_group-end-in-loop c =
     let h = c.loop in
     let n = c.count_at-n in
-    let z = laid_next (c.args.groups - h.counter) (c.args.groups - (h.counter + 1)) c.args.draft.now h.from (omega arith) h.invariant.2 h.invariant.0 n.result n.ensures.0 in
+    let z = laid_next c.args.draft.now (omega arith) h.invariant.2 h.invariant.0 n.ensures.0 in
     omega arith
 
 pub put_group-requires : goal.put_group-requires
 put_group-requires c =
     let h = c.loop in
     let n = c.count_at-n in
-    let z = laid_next (c.args.groups - h.counter) (c.args.groups - (h.counter + 1)) c.args.draft.now h.from (omega arith) h.invariant.2 h.invariant.0 n.result n.ensures.0 in
+    let z = laid_next c.args.draft.now (omega arith) h.invariant.2 h.invariant.0 n.ensures.0 in
     (search rules, simp (length-take, length-drop) (omega arith), simp (length-take, length-drop) (omega arith))
 
 pub loop-preserved : goal.loop-preserved
 loop-preserved c =
     let h = c.loop in
     let n = c.count_at-n in
-    let z = laid_next (c.args.groups - h.counter) (c.args.groups - (h.counter + 1)) c.args.draft.now h.from (omega arith) h.invariant.2 h.invariant.0 n.result n.ensures.0 in
+    let z = laid_next c.args.draft.now (omega arith) h.invariant.2 h.invariant.0 n.ensures.0 in
     let a = c.args in
     let all = bytes_all a.draft.now (λ i. omega (arith, c.type_inv.draft i)) in (
       omega arith,
