@@ -7,7 +7,7 @@ ghost use Rattle.std.specs.Prelude.{◌≡◌, ◌+◌, ◌<◌, ◌≤◌, leng
 ghost use Rattle.policy.specs.Fields.{fields, record_size};
 
 use order::{ALLOW, DENY, Lists, full};
-use policy::{Box, FIELDS, HIGHEST, RECORD_BYTES, Range, Refusal, Rule};
+use policy::{Box, FIELDS, FULL, HIGHEST, RECORD_BYTES, Range, Refusal, Rule};
 use promises::Change;
 
 // A record and a byte more, which no edit takes.
@@ -94,11 +94,11 @@ impl Draws {
     }
 
     fn change(&mut self) -> Change {
-        let form = self.below(16);
-        if form < self.shape.inserts {
+        let draw = self.below(16);
+        if draw < self.shape.inserts {
             return Change::Insert;
         }
-        if form - self.shape.inserts < self.shape.deletes {
+        if draw - self.shape.inserts < self.shape.deletes {
             return Change::Delete;
         }
         Change::Replace
@@ -178,7 +178,7 @@ impl Draws {
     // A box that is narrowed in one field at least.
     fn bounds(&mut self) -> Box {
         let always = self.below(self.shape.fields) as usize;
-        let mut bounds = full(DENY).bounds;
+        let mut bounds = FULL;
         for k in 0..FIELDS {
             if self.narrows(k, always) {
                 bounds = bounds.narrow(k, self.range(k));
@@ -226,11 +226,11 @@ impl Draws {
 
     // A rule as the shape has it, and now and then a full one.
     fn any(&mut self) -> Rule {
-        let form = self.below(128);
-        if form == 0 {
+        let draw = self.below(128);
+        if draw == 0 {
             return full(ALLOW);
         }
-        if form <= self.shape.full {
+        if draw <= self.shape.full {
             return full(DENY);
         }
         self.rule()

@@ -7,7 +7,7 @@ ghost use Rattle.policy.specs.Values.{rule_of};
 ghost use Rattle.test_draws.specs.Order.{Added, count_after, count_put, list_put, record_put};
 
 use crate::Edit;
-use policy::{Box, COUNT_BYTES, FIELDS, HIGHEST, OWN_MOST, RECORD_BYTES, Refusal, Rule};
+use policy::{COUNT_BYTES, FULL, OWN_MOST, RECORD_BYTES, Refusal, Rule};
 use promises::Change;
 
 // A rule's action is a number, as C lends it.
@@ -49,10 +49,7 @@ pub fn full(action: u32) -> Rule
     ensures { rule_of result ≡ rule full action }
 {
     Rule {
-        bounds: Box {
-            low: [0; FIELDS],
-            high: HIGHEST,
-        },
+        bounds: FULL,
         action,
     }
 }
