@@ -13,11 +13,12 @@ use Rattle.lists.proofs.Tests.{and_true}
 use Rattle.policy.specs.Fields.{limits, record_size, work_size}
 use Rattle.policy.specs.Ranges.{Packet}
 use Rattle.policy.specs.Refusals.{Answer, refusal_base, Outcome, accepted, refused, test, said}
-use Rattle.policy.specs.Move.{Order}
+use Rattle.policy.specs.Move.{Order, Pair}
 use Rattle.policy.proofs.Answers.{test_accepted}
 use Rattle.records.specs.Calls.{reading_of, writing_of, RecordRead, RecordWritten}
 use Rattle.wire.specs.Buffers.{room_for, answered, written, length_of}
 use Rattle.sheet.specs.Orders.{order_bytes, order_in, gate_size, own_size, order_size}
+use Rattle.sheet.specs.Pairs.{pair_bytes, pair_size}
 use Rattle.orders.specs.Split.{split_of, Split, first_bytes}
 use Rattle.orders.specs.Join.{join_of, Join}
 use Rattle.promises.specs.Calls.{Call, check_of, Checks}
@@ -35,6 +36,11 @@ pub call_plain :
     → Call bytes size (room_for size out && b) x out w q out' w' → length out' ≡ length out → size < refusal_base → Plain (said q)
 call_plain bytes size b x out (Ok n) c e h = let k = call_length bytes size b x out c e n refl in omega arith
 call_plain bytes size b x out (Err f) c e h = tt
+
+-- A call that writes a pair sheet.
+pub pair_plain : (b : Bool) {x : Outcome Pair} {out w out' w' : List ℕ} {q : Answer}
+    → Call pair_bytes pair_size (room_for pair_size out && b) x out w q out' w' → length out' ≡ length out → Plain (said q)
+pair_plain b {x = x} {out = out} {q = q} c e = call_plain pair_bytes pair_size b x out q c e (omega arith)
 
 -- Check and the record calls, which answer a fixed number.
 answered_plain : {A : Type 0} (n : ℕ) → n < refusal_base → (x : Outcome A) → Plain (answered n x)

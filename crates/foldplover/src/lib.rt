@@ -22,6 +22,7 @@ ghost use Rattle.foldplover.specs.Coded.{coded, Plain, Coded};
 use policy::{Answer, Packet, refused_number};
 use promises::{Change, Request};
 
+// Not a From: it asks that a value be below every refusal's number.
 fn answer_number(a: Answer) -> u32
     requires { Plain (said a) }
     ensures { result ≡ coded (said a) }

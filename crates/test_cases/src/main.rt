@@ -4,12 +4,14 @@
 
 ghost use Rattle.std.specs.Prelude.{◌<◌, IfOk};
 
-use foldplover::{foldplover_delete, foldplover_insert, foldplover_move, foldplover_replace};
+use foldplover::foldplover_move;
 use groups::WORK_BYTES;
 use policy::{COUNT_BYTES, RECORD_BYTES, REFUSAL_BASE};
+use promises::{Change, Request};
 use sheet::PAIR_BYTES;
 use std::io;
 use std::io::Read;
+use test_draws::edit_by_call;
 
 // A stream is played up to so many cases.
 const CASES_MOST: u64 = 1000000;
@@ -17,20 +19,11 @@ const CASES_MOST: u64 = 1000000;
 // The bytes of the longest order sheet that a stream can have: their number has two bytes.
 const ORDER_MOST: usize = 65535;
 
-// What an edit does at its place, with the record that it puts there.
-#[derive(Clone, Copy)]
-enum Change {
-    Insert([u8; RECORD_BYTES]),
-    Delete,
-    Replace([u8; RECORD_BYTES]),
-}
-
-// An edit as the stream has it. Its list is a number, as the calls for C take it: 0 is A, 1 is B, and any other is neither.
+// An edit as the stream has it. The record of a delete, which has none, is zeros.
 #[derive(Clone, Copy)]
 struct Edit {
-    which: u32,
-    place: usize,
-    change: Change,
+    request: Request,
+    record: [u8; RECORD_BYTES],
 }
 
 // A pair sheet in its buffer, and its length, as the calls for C take them.
@@ -59,24 +52,22 @@ fn read_edit(input: &mut impl Read) -> io::Result<Edit> {
     let [kind, which]: [u8; 2] = read_bytes(input)?;
     let place = read_number(input)?;
     // Any kind above 1 is a replace.
-    let change = match kind {
-        0 => Change::Insert(read_bytes(input)?),
-        1 => Change::Delete,
-        _ => Change::Replace(read_bytes(input)?),
+    let (change, record) = match kind {
+        0 => (Change::Insert, read_bytes(input)?),
+        1 => (Change::Delete, [0; RECORD_BYTES]),
+        _ => (Change::Replace, read_bytes(input)?),
     };
-    Ok(Edit {
+    let request = Request {
         which: which as u32,
         place,
         change,
-    })
+    };
+    Ok(Edit { request, record })
 }
 
 // The length that a call's number says; none where it is a refusal's.
 fn length_of(answer: u32) -> Option<usize> {
-    if answer < REFUSAL_BASE {
-        return Some(answer as usize);
-    }
-    None
+    (answer < REFUSAL_BASE).then_some(answer as usize)
 }
 
 fn moved(order: &[u8], sheet: &mut [u8]) -> u32 {
@@ -88,17 +79,7 @@ impl Pair {
     // An edit done; the number that it is answered with.
     fn edit(&mut self, e: Edit) -> u32 {
         let mut work = [0; WORK_BYTES];
-        let sheet = &mut self.sheet;
-        let used = self.used;
-        match e.change {
-            Change::Insert(record) => foldplover_insert(
-                sheet, used, e.which, e.place, &record, &mut work,
-            ),
-            Change::Delete => foldplover_delete(sheet, used, e.which, e.place, &mut work),
-            Change::Replace(record) => foldplover_replace(
-                sheet, used, e.which, e.place, &record, &mut work,
-            ),
-        }
+        edit_by_call(&mut self.sheet, self.used, e.request, &e.record, &mut work)
     }
 
     // The sum of its bytes, each times its number, counted from 1, in 32 bits.

@@ -1,31 +1,32 @@
 // Edits drawn by a small generator of pseudo-random numbers, so that a seed gives the same run on every machine.
+// An edit is done by one of the calls for C.
 #![tactic(auto)]
 
 pub mod order;
 
 ghost use Rattle.std.specs.Prelude.{◌≡◌, ◌+◌, ◌<◌, ◌≤◌, length, take};
 ghost use Rattle.policy.specs.Fields.{fields, record_size};
+ghost use Rattle.promises.specs.Edits.{Edits, asked};
+ghost use Rattle.foldplover.specs.Coded.{Coded};
 
+use foldplover::{foldplover_delete, foldplover_insert, foldplover_replace};
 use order::{ALLOW, DENY, Lists, full};
-use policy::{Box, FIELDS, HIGHEST, RECORD_BYTES, Range, Refusal, Rule};
-use promises::Change;
+use policy::{Box, FIELDS, FULL, HIGHEST, RECORD_BYTES, Range, Refusal, Rule};
+use promises::{Change, Request};
 
 // A record and a byte more, which no edit takes.
 const LONG_BYTES: usize = RECORD_BYTES + 1;
 
-// An edit. Its list is a number, as the calls for C take it: 0 is A, 1 is B, and any other is neither.
+// An edit: what is asked for, and the bytes that are lent as the record.
 #[derive(Clone, Copy)]
 pub struct Edit {
-    pub change: Change,
-    pub which: u32,
-    pub place: usize,
+    pub request: Request,
     bytes: [u8; LONG_BYTES],
     size: usize,
     ghost within: { size ≤ length bytes },
 }
 
 impl Edit {
-    // The bytes that are lent as the record.
     pub fn bytes(&self) -> &[u8]
         ensures { result.now ≡ take self.now.size self.now.bytes }
     {
@@ -55,6 +56,28 @@ pub struct Shape {
     pub narrow: u32,
     pub span: u32,
     pub ends: u32,
+}
+
+// An edit of the pair sheet in its buffer, by the call that C has for it. A delete's call is lent no record.
+pub fn edit_by_call(
+    sheet: &mut [u8],
+    used: usize,
+    request: Request,
+    bytes: &[u8],
+    work: &mut [u8],
+) -> u32
+    ensures { Coded (λ q. Edits sheet.old used (asked request bytes.now) work.old q sheet.new work.new) result }
+{
+    let Request {
+        which,
+        place,
+        change,
+    } = request;
+    match change {
+        Change::Insert => foldplover_insert(sheet, used, which, place, bytes, work),
+        Change::Delete => foldplover_delete(sheet, used, which, place, work),
+        Change::Replace => foldplover_replace(sheet, used, which, place, bytes, work),
+    }
 }
 
 // The last place that a list of so many rules has for an edit.
@@ -94,11 +117,11 @@ impl Draws {
     }
 
     fn change(&mut self) -> Change {
-        let form = self.below(16);
-        if form < self.shape.inserts {
+        let draw = self.below(16);
+        if draw < self.shape.inserts {
             return Change::Insert;
         }
-        if form - self.shape.inserts < self.shape.deletes {
+        if draw - self.shape.inserts < self.shape.deletes {
             return Change::Delete;
         }
         Change::Replace
@@ -178,7 +201,7 @@ impl Draws {
     // A box that is narrowed in one field at least.
     fn bounds(&mut self) -> Box {
         let always = self.below(self.shape.fields) as usize;
-        let mut bounds = full(DENY).bounds;
+        let mut bounds = FULL;
         for k in 0..FIELDS {
             if self.narrows(k, always) {
                 bounds = bounds.narrow(k, self.range(k));
@@ -226,11 +249,11 @@ impl Draws {
 
     // A rule as the shape has it, and now and then a full one.
     fn any(&mut self) -> Rule {
-        let form = self.below(128);
-        if form == 0 {
+        let draw = self.below(128);
+        if draw == 0 {
             return full(ALLOW);
         }
-        if form <= self.shape.full {
+        if draw <= self.shape.full {
             return full(DENY);
         }
         self.rule()
@@ -238,7 +261,7 @@ impl Draws {
 
     // An edit of these lists.
     pub fn edit(&mut self, lists: &Lists) -> Edit
-        ensures { result.which < 5 }
+        ensures { result.request.which < 5 }
     {
         let change = self.change();
         let which = self.which();
@@ -246,10 +269,13 @@ impl Draws {
         let size = self.size();
         let mut bytes = [0; LONG_BYTES];
         wire::put_rule(&mut bytes, 0, self.any());
-        Edit {
-            change,
+        let request = Request {
             which,
             place,
+            change,
+        };
+        Edit {
+            request,
             bytes,
             size,
         }

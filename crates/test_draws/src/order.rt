@@ -7,7 +7,7 @@ ghost use Rattle.policy.specs.Values.{rule_of};
 ghost use Rattle.test_draws.specs.Order.{Added, count_after, count_put, list_put, record_put};
 
 use crate::Edit;
-use policy::{Box, COUNT_BYTES, FIELDS, HIGHEST, OWN_MOST, RECORD_BYTES, Refusal, Rule};
+use policy::{COUNT_BYTES, FULL, OWN_MOST, RECORD_BYTES, Refusal, Rule};
 use promises::Change;
 
 // A rule's action is a number, as C lends it.
@@ -49,10 +49,7 @@ pub fn full(action: u32) -> Rule
     ensures { rule_of result ≡ rule full action }
 {
     Rule {
-        bounds: Box {
-            low: [0; FIELDS],
-            high: HIGHEST,
-        },
+        bounds: FULL,
         action,
     }
 }
@@ -158,11 +155,11 @@ impl List {
 
     #[tactic(auto, unfolding(crate::specs::Order::count_after))]
     fn edit(&mut self, e: &Edit) -> Result<(), Refusal>
-        ensures done { OnOk result (self.new.count ≡ count_after e.now.change self.old.count) }
+        ensures done { OnOk result (self.new.count ≡ count_after e.now.request.change self.old.count) }
         ensures refused { OnErr result (self.new ≡ self.old) }
     {
-        let place = e.place;
-        match e.change {
+        let place = e.request.place;
+        match e.request.change {
             Change::Insert if place <= self.count => self.insert(place, e.record()?)?,
             Change::Delete if place < self.count => self.remove(place),
             Change::Replace if place < self.count => self.records[place] = e.record()?,
@@ -196,12 +193,12 @@ impl Lists {
 
     // An edit done, or the refusal for which there are no edited lists.
     pub fn edit(&mut self, e: &Edit) -> Result<(), Refusal>
-        ensures gate { e.now.which ≡ 0 → OnOk result ((self.new.gate.count ≡ count_after e.now.change self.old.gate.count) × (self.new.own ≡ self.old.own)) }
-        ensures own { e.now.which ≡ 1 → OnOk result ((self.new.own.count ≡ count_after e.now.change self.old.own.count) × (self.new.gate ≡ self.old.gate)) }
-        ensures neither { 1 < e.now.which → IsErr result }
+        ensures gate { e.now.request.which ≡ 0 → OnOk result ((self.new.gate.count ≡ count_after e.now.request.change self.old.gate.count) × (self.new.own ≡ self.old.own)) }
+        ensures own { e.now.request.which ≡ 1 → OnOk result ((self.new.own.count ≡ count_after e.now.request.change self.old.own.count) × (self.new.gate ≡ self.old.gate)) }
+        ensures neither { 1 < e.now.request.which → IsErr result }
         ensures refused { OnErr result (self.new ≡ self.old) }
     {
-        match e.which {
+        match e.request.which {
             0 => self.gate.edit(e),
             1 => self.own.edit(e),
             _ => Err(Refusal::NoPlace),

@@ -5,7 +5,7 @@ ghost use Rattle.std.specs.Prelude.{◌≤◌, ◌<◌};
 ghost use Rattle.policy.specs.Fields.{fields};
 
 use groups::WORK_BYTES;
-use policy::{Range, Rule};
+use policy::{FULL, Range, Rule};
 use printing::print_refusal;
 use sheet::PAIR_BYTES;
 use std::io;
@@ -20,7 +20,7 @@ fn single(field: usize, value: u32) -> Rule
         high: value,
     };
     Rule {
-        bounds: full(ALLOW).bounds.narrow(field, range),
+        bounds: FULL.narrow(field, range),
         action: ALLOW,
     }
 }

@@ -2,14 +2,14 @@
 // seeds; after every edit, accepted or refused, the number and all bytes of the pair sheet are compared.
 #![tactic(auto)]
 
-use foldplover::{foldplover_delete, foldplover_insert, foldplover_move, foldplover_replace};
+use foldplover::foldplover_move;
 use groups::WORK_BYTES;
 use policy::{BOX_BYTES, REFUSAL_BASE, Refusal, number_of};
 use promises::Change;
 use sheet::PAIR_BYTES;
 use std::{fmt, io};
 use test_draws::order::Lists;
-use test_draws::{Draws, Edit, Shape};
+use test_draws::{Draws, Edit, Shape, edit_by_call};
 
 // What lent buffers hold before a call that is to write over it. The sheet of the first move has other bytes than that of a
 // fresh move, so that a byte which neither writes is seen.
@@ -136,7 +136,7 @@ struct Counts {
 
 impl Counts {
     fn add(&mut self, e: &Edit) {
-        match e.change {
+        match e.request.change {
             Change::Insert => count_up(&mut self.inserts),
             Change::Delete => return count_up(&mut self.deletes),
             Change::Replace => count_up(&mut self.replaces),
@@ -179,7 +179,7 @@ impl Tally {
 
     fn add_accepted(&mut self, e: &Edit) {
         self.add_answer(0);
-        match e.which {
+        match e.request.which {
             0 => self.gate.add(e),
             _ => self.own.add(e),
         }
@@ -213,8 +213,7 @@ fn count_up(n: &mut u32) {
 }
 
 fn is_zero(work: &[u8]) -> bool {
-    let zeros = [0u8; WORK_BYTES];
-    work == zeros.as_slice()
+    work.iter().all(|byte| *byte == 0)
 }
 
 // What the number that C gets says.
@@ -265,34 +264,10 @@ impl Run {
         })
     }
 
-    // The library's call for an edit.
-    fn call(&mut self, e: &Edit, work: &mut [u8]) -> u32 {
-        let sheet = &mut self.sheet;
-        match e.change {
-            Change::Insert => foldplover_insert(
-                sheet,
-                self.used,
-                e.which,
-                e.place,
-                e.bytes(),
-                work,
-            ),
-            Change::Delete => foldplover_delete(sheet, self.used, e.which, e.place, work),
-            Change::Replace => foldplover_replace(
-                sheet,
-                self.used,
-                e.which,
-                e.place,
-                e.bytes(),
-                work,
-            ),
-        }
-    }
-
     // An edit done on the pair sheet.
     fn edited(&mut self, e: &Edit) -> Outcome {
         let mut work = [DIRT; WORK_BYTES];
-        let answer = self.call(e, &mut work);
+        let answer = edit_by_call(&mut self.sheet, self.used, e.request, e.bytes(), &mut work);
         if !is_zero(&work) {
             return Err(Fault::WorkLeftByEdit);
         }
@@ -318,32 +293,28 @@ impl Run {
         Some(outcome)
     }
 
-    // The edits of a run, up to the first after which something differs; how many there were before that.
-    fn play_edits(&mut self, seed: u32, shape: Shape, tally: &mut Tally) -> u32 {
+    // The edits of a run, up to the first after which something differs; then how many there were before that one.
+    fn play_edits(&mut self, seed: u32, shape: Shape, tally: &mut Tally) -> Result<(), u32> {
         let mut draws = Draws::new(seed, shape);
         for done in 0..shape.edits {
             let e = draws.edit(&self.lists);
-            let Some(outcome) = self.play_edit(&e) else {
-                return done;
-            };
+            let outcome = self.play_edit(&e).ok_or(done)?;
             tally.add(&e, outcome);
         }
-        shape.edits
+        Ok(())
     }
 }
 
 fn play(rt: &impl Print, seed: u32, shape: Shape) -> io::Result<()> {
     let mut tally = Tally::default();
-    let done = match Run::begin() {
+    let played = match Run::begin() {
         Ok(mut run) => run.play_edits(seed, shape, &mut tally),
-        Err(_) => 0,
+        Err(_) => Err(0),
     };
-    let end = if done < shape.edits {
-        "then one that differs"
-    } else {
-        "0 differ"
-    };
-    println!(rt; "seed {seed}: {done} edits, {end}; {tally}")
+    match played {
+        Ok(()) => println!(rt; "seed {seed}: {} edits, 0 differ; {tally}", shape.edits),
+        Err(done) => println!(rt; "seed {seed}: {done} edits, then one that differs; {tally}"),
+    }
 }
 
 fn main(rt: HostRuntime) -> io::Result<()> {

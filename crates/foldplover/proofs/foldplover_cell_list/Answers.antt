@@ -2,18 +2,13 @@
 use borrow.Author.Rules.{rules}
 use native.Mathlib.Omega.{arith}
 use Rattle.promises.specs.Calls.{cell_bytes, cell_list_size}
-use Rattle.policy.specs.Refusals.{said}
-use Rattle.foldplover.specs.Coded.{Plain}
 use Rattle.foldplover.proofs.Plain.{call_plain}
 use Rattle.foldplover.proofs.foldplover_cell_list.Goals as goal
 
 pub answer_number-requires : goal.answer_number-requires
-answer_number-requires c =
-    let plain : Plain (said c.cell_list.result) = call_plain cell_bytes cell_list_size _ _ _ _ c.cell_list.ensures (search rules) (omega arith) in
-    plain
+answer_number-requires c = call_plain cell_bytes cell_list_size _ _ _ _ c.cell_list.ensures (search rules) (omega arith)
 
 pub returns : goal.returns
 returns c =
-    let plain : Plain (said c.cell_list.result) = call_plain cell_bytes cell_list_size _ _ _ _ c.cell_list.ensures (search rules) (omega arith) in
     let k = c.cell_list in
-    record { answer = k.result; below = k.ensures; number = c.answer_number.ensures; plain = plain }
+    record { answer = k.result; below = k.ensures; number = c.answer_number.ensures; plain = call_plain cell_bytes cell_list_size _ _ _ _ k.ensures (search rules) (omega arith) }

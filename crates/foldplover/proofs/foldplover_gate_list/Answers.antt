@@ -2,18 +2,13 @@
 use borrow.Author.Rules.{rules}
 use native.Mathlib.Omega.{arith}
 use Rattle.promises.specs.Calls.{gate_bytes, gate_list_size}
-use Rattle.policy.specs.Refusals.{said}
-use Rattle.foldplover.specs.Coded.{Plain}
 use Rattle.foldplover.proofs.Plain.{call_plain}
 use Rattle.foldplover.proofs.foldplover_gate_list.Goals as goal
 
 pub answer_number-requires : goal.answer_number-requires
-answer_number-requires c =
-    let plain : Plain (said c.gate_list.result) = call_plain gate_bytes gate_list_size _ _ _ _ c.gate_list.ensures (search rules) (omega arith) in
-    plain
+answer_number-requires c = call_plain gate_bytes gate_list_size _ _ _ _ c.gate_list.ensures (search rules) (omega arith)
 
 pub returns : goal.returns
 returns c =
-    let plain : Plain (said c.gate_list.result) = call_plain gate_bytes gate_list_size _ _ _ _ c.gate_list.ensures (search rules) (omega arith) in
     let k = c.gate_list in
-    record { answer = k.result; below = k.ensures; number = c.answer_number.ensures; plain = plain }
+    record { answer = k.result; below = k.ensures; number = c.answer_number.ensures; plain = call_plain gate_bytes gate_list_size _ _ _ _ k.ensures (search rules) (omega arith) }

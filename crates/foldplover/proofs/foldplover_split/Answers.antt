@@ -1,17 +1,12 @@
 -- `foldplover_split` meets its contract: it hands over to `split`. Assumes nothing.
 use borrow.Author.Rules.{rules}
-use Rattle.policy.specs.Refusals.{said}
-use Rattle.foldplover.specs.Coded.{Plain}
 use Rattle.foldplover.proofs.Plain.{split_plain}
 use Rattle.foldplover.proofs.foldplover_split.Goals as goal
 
 pub answer_number-requires : goal.answer_number-requires
-answer_number-requires c =
-    let plain : Plain (said c.split.result) = split_plain c.split.ensures (search rules) in
-    plain
+answer_number-requires c = split_plain c.split.ensures (search rules)
 
 pub returns : goal.returns
 returns c =
-    let plain : Plain (said c.split.result) = split_plain c.split.ensures (search rules) in
     let k = c.split in
-    record { answer = k.result; below = k.ensures; number = c.answer_number.ensures; plain = plain }
+    record { answer = k.result; below = k.ensures; number = c.answer_number.ensures; plain = split_plain k.ensures (search rules) }
