@@ -1,2 +1,2 @@
 -- What the functions of this crate promise is said with these.
-pub mod Order
+pub mod Steps

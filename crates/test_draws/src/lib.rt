@@ -10,8 +10,8 @@ ghost use Rattle.promises.specs.Edits.{Edits, asked};
 ghost use Rattle.foldplover.specs.Coded.{Coded};
 
 use foldplover::{foldplover_delete, foldplover_insert, foldplover_replace};
-use order::{ALLOW, DENY, Lists, full};
-use policy::{Box, FIELDS, FULL, HIGHEST, RECORD_BYTES, Range, Refusal, Rule};
+use order::{Lists, full};
+use policy::{ALLOW, Box, DENY, FIELDS, FULL, HIGHEST, RECORD_BYTES, Range, Refusal, Rule};
 use promises::{Change, Request};
 
 // A record and a byte more, which no edit takes.

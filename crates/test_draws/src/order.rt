@@ -4,16 +4,11 @@ ghost use Rattle.std.specs.Prelude.{◌≡◌, ◌≤◌, ◌<◌, ◌+◌, ◌-
 ghost use Rattle.policy.specs.Fields.{count_size, record_size};
 ghost use Rattle.policy.specs.Rules.{rule, full};
 ghost use Rattle.policy.specs.Values.{rule_of};
-ghost use Rattle.test_draws.specs.Order.{Added, count_after, count_put, list_put, record_put};
+ghost use Rattle.test_draws.specs.Steps.{Added, count_after, count_put, list_put, record_put};
 
 use crate::Edit;
-use policy::{COUNT_BYTES, FULL, OWN_MOST, RECORD_BYTES, Refusal, Rule};
+use policy::{ALLOW, COUNT_BYTES, DENY, FULL, OWN_MOST, RECORD_BYTES, Refusal, Rule};
 use promises::Change;
-
-// A rule's action is a number, as C lends it.
-pub const DENY: u32 = 0;
-
-pub const ALLOW: u32 = 1;
 
 // The longest list, and a rule more: an insert may make a list too long.
 const LIST_RULES: usize = OWN_MOST + 1;
@@ -153,7 +148,7 @@ impl List {
         self.count -= 1;
     }
 
-    #[tactic(auto, unfolding(crate::specs::Order::count_after))]
+    #[tactic(auto, unfolding(crate::specs::Steps::count_after))]
     fn edit(&mut self, e: &Edit) -> Result<(), Refusal>
         ensures done { OnOk result (self.new.count ≡ count_after e.now.request.change self.old.count) }
         ensures refused { OnErr result (self.new ≡ self.old) }

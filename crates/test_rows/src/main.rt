@@ -5,11 +5,11 @@ ghost use Rattle.std.specs.Prelude.{◌≤◌, ◌<◌};
 ghost use Rattle.policy.specs.Fields.{fields};
 
 use groups::WORK_BYTES;
-use policy::{FULL, Range, Rule};
+use policy::{ALLOW, DENY, FULL, Range, Rule};
 use printing::print_refusal;
 use sheet::PAIR_BYTES;
 use std::io;
-use test_draws::order::{ALLOW, DENY, Sheet, full};
+use test_draws::order::{Sheet, full};
 
 // An allow of a single value in one field.
 fn single(field: usize, value: u32) -> Rule

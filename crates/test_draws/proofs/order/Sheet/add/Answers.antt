@@ -2,7 +2,7 @@
 use Rattle.std.proofs.Common.{rules, arith, ◌≡◌, ◌+◌, ◌-◌, ◌++◌, List, ℕ, ◌<◌, ◌≤◌, ◌∙◌, ap, sym, refl, length, take, drop, length-append, length-take-le}
 use Rattle.std.proofs.lemmas.List.Edits.{sets, sets-eq}
 use lib.Seq.{take_at, length-sets}
-use Rattle.test_draws.specs.Order.{Added}
+use Rattle.test_draws.specs.Steps.{Added}
 use Rattle.test_draws.proofs.order.Sheet.add.Goals as goal
 
 put_behind : (used : ℕ) (bytes more after : List ℕ) (end : ℕ) → used + length more ≤ length bytes → after ≡ sets bytes used more → end ≡ used + length more

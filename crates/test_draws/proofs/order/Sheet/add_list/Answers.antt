@@ -4,7 +4,7 @@ use Rattle.std.proofs.lemmas.List.{take_more, flat_map_more}
 use lib.Seq.{take_all, length-sets}
 use Rattle.policy.specs.Fields.{count_size, record_size}
 use Rattle.wire.specs.Numbers.{number_bytes}
-use Rattle.test_draws.specs.Order.{Added, count_put}
+use Rattle.test_draws.specs.Steps.{Added, count_put}
 use Rattle.test_draws.proofs.order.Sheet.add_list.Goals as goal
 
 one_more : (start before after : List ℕ) (items : List (List ℕ)) (i : ℕ) → i < length items → before ≡ start ++ flat_map (λ r. r) (take i items)
