@@ -1,10 +1,10 @@
 -- What each arm of drafting one rule, and each turn of drafting many, gives. Assumes nothing.
 use mathlib.Core.Path.{◌≡◌, refl, ap, sym, ◌∙◌}
 use mathlib.Core.List.{List, ◌++◌}
-use mathlib.Core.Bool.{Bool, true, false, cond}
+use mathlib.Core.Bool.{Bool, true, false}
 use Prim.Native.Nat.{ℕ, ◌+◌, ◌*◌, ◌-◌, ◌≤◌, ◌<◌}
 use native.Mathlib.Omega.{arith}
-use lib.ListN.{length, take, drop, length-append, length-drop}
+use lib.ListN.{length, take, drop, length-append}
 use lib.Seq.{sets, length-take-le}
 use Rattle.lists.proofs.Parts.{tail_sets}
 use Rattle.policy.specs.Fields.{box_size, count_size, record_size, limits, work_size}
@@ -19,7 +19,7 @@ use Rattle.wire.proofs.Numbers.{number_bytes-length}
 use Rattle.groups.specs.Steps.{start_at, allows_at, worked_of, WorkedFrom, WorkedOut}
 use Rattle.groups.proofs.Works.{err_told, ok_told}
 use Rattle.sheet.specs.Pairs.{group_size, group_bytes}
-use Rattle.draft.specs.Steps.{Appended, stretch, Drafting, Bounded, Ready, AllReady, DraftedGroups}
+use Rattle.draft.specs.Steps.{Appended, stretch, Drafting, Bounded, Ready, DraftedGroups}
 use Rattle.draft.specs.declared.Drafted.{Drafted}
 use Rattle.std.specs.Prelude.{Result, Ok, Err}
 use Rattle.policy.specs.declared.Refusal.{Refusal}

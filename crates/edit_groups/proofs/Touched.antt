@@ -77,14 +77,9 @@ module _ {pair order : List ℕ} {l : PairLayout} {place renewed : ℕ} {change 
   put_is : any_allow (drop place (rules_of (place + put) order)) ≡ any_allow (take (put_by change) (drop place fresh))
   put_is = rw by.1 (ap any_allow (part_is place (put_by change) renewed order ready.put))
 
-  -- whether an allow is taken out, and else whether one is put in
-  pub touched_first : true ≡ any_allow (drop place (rules_of (place + taken) pair)) → true ≡ touched place change old fresh
+  pub touched_is : {t : Bool} → t ≡ any_allow (drop place (rules_of (place + taken) pair)) || any_allow (drop place (rules_of (place + put) order)) → t ≡ touched place change old fresh
   unfolding touched
-  touched_first h = rw (← taken_is, ← h)
-
-  pub touched_second : false ≡ any_allow (drop place (rules_of (place + taken) pair)) → {t : Bool} → t ≡ any_allow (drop place (rules_of (place + put) order)) → t ≡ touched place change old fresh
-  unfolding touched
-  touched_second h e = e ∙ rw (← taken_is, ← h, put_is)
+  touched_is e = e ∙ rw (taken_is, put_is) refl
 
   module _ {t : Bool} (is : t ≡ touched place change old fresh) where
     pub around_all : t ≡ true → record { earlier = earlier; later = l.groups; groups = l.groups; place = place; to = renewed; count = renewed } ≡ around_of place change old fresh

@@ -4,7 +4,7 @@
 // A sheet and its layout are two parameters, since the layout tells what the sheet was: a type of both would be wrong once it is written.
 #![tactic(auto)]
 
-ghost use Rattle.std.specs.Prelude.{◌≡◌, ◌+◌, ◌*◌, ◌≤◌, length, drop};
+ghost use Rattle.std.specs.Prelude.{◌≡◌, ◌||◌, ◌+◌, ◌*◌, ◌≤◌, length, drop};
 ghost use Rattle.policy.specs.Rules.{any_allow};
 ghost use Rattle.policy.specs.Move.{alone};
 ghost use Rattle.wire.specs.Lists.{list_size};
@@ -40,6 +40,14 @@ fn any_allow(list: &[u8], place: usize, n: usize) -> bool
     n != 0 && wire::rule_at(list, COUNT_BYTES + RECORD_BYTES * place).is_allow()
 }
 
+// Whether an allow is among the rules taken out of one list at a place, or among those put into the other, one at most of each.
+fn is_touched(pair: &[u8], list: &[u8], place: usize, taken: usize, put: usize) -> bool
+    requires { (taken ≤ 1) × (put ≤ 1) × (list_size (place + taken) ≤ length pair.now) × (list_size (place + put) ≤ length list.now) }
+    ensures { result ≡ any_allow (drop place (rules_of (place + taken) pair.now)) || any_allow (drop place (rules_of (place + put) list.now)) }
+{
+    any_allow(pair, place, taken) || any_allow(list, place, put)
+}
+
 // Where the groups of the new A, of so many rules, come from: those behind the place too are worked out anew where an allow is taken
 // out or put in.
 pub fn find_around(
@@ -56,7 +64,7 @@ pub fn find_around(
     let groups = old.groups;
     let (taken, put) = taken_and_put(request.change);
     let earlier = sheet::count_denies(pair, place);
-    let touched = any_allow(pair, place, taken) || any_allow(list, place, put);
+    let touched = is_touched(pair, list, place, taken, put);
     let (later, to) = if touched {
         (groups, count)
     } else {
