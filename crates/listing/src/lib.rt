@@ -11,7 +11,9 @@ ghost use Rattle.promises.specs.Calls.{Lists, cell_bytes, cell_list_size, gate_b
 ghost use Rattle.listing.specs.Steps.{box_records, group_records, ListPut, CheckedWithRoom};
 
 use groups::WORK_BYTES;
-use policy::{Answer, BOX_BYTES, COUNT_BYTES, FULL, RECORD_BYTES, Refusal, Rule, TOTAL_MOST};
+use policy::{
+    ALLOW, Answer, BOX_BYTES, COUNT_BYTES, DENY, FULL, RECORD_BYTES, Refusal, Rule, TOTAL_MOST,
+};
 use sheet::PairLayout;
 
 // What the cell list and the gate list are lent at least.
@@ -26,7 +28,14 @@ fn deny_boxes(out: &mut [u8], at: usize, sheet: &[u8], from: usize, n: usize)
 {
     for i in 0..n {
         let bounds = wire::box_at(sheet, from + BOX_BYTES * i);
-        wire::put_rule(out, at + RECORD_BYTES * i, Rule { bounds, action: 0 });
+        wire::put_rule(
+            out,
+            at + RECORD_BYTES * i,
+            Rule {
+                bounds,
+                action: DENY,
+            },
+        );
     }
 }
 
@@ -94,7 +103,7 @@ fn allow_all() -> Rule
 {
     Rule {
         bounds: FULL,
-        action: 1,
+        action: ALLOW,
     }
 }
 
