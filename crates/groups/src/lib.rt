@@ -1,6 +1,7 @@
 // The group of a deny rule. The first half of the work buffer holds the pieces; what an allow leaves of them is stored in the
 // second half, and then copied back. How many pieces there are goes beside the half, since a call asks for no memory; and a type of
-// both would tell what stands in the half by a ghost field beside a `&mut`, which the check does not take.
+// both would tell what stands in the half by a ghost field beside a `&mut`, which the check does not take. A piece is a part of a half:
+// an array of its bytes would be had by a conversion that may fail.
 #![tactic(auto)]
 
 ghost use Rattle.std.specs.Prelude.{◌≡◌, ◌∷◌, [], true, ◌+◌, ◌*◌, ◌≤◌, ◌<◌, length, take, drop};

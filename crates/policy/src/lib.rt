@@ -140,6 +140,7 @@ fn value_at(values: [u32; FIELDS], k: usize) -> u32
     x
 }
 
+// A field is its number below FIELDS, which every loop over the fields gives; a type of its own would be opened at each array.
 impl Box {
     pub fn range(self, k: usize) -> Range
         requires { k < fields }

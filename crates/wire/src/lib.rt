@@ -16,7 +16,7 @@ use policy::{BOX_BYTES, Box, COUNT_BYTES, FIELDS, RECORD_BYTES, Range, Rule, WID
 const ACTION_BYTES: usize = RECORD_BYTES - BOX_BYTES;
 
 // The number of w bytes that begin at `at`: they are the last of four, with zero before them. Where w is known, the compiler makes one
-// load of it.
+// load of it. The width is a number, as the fields' table has it.
 pub fn number_at(s: &[u8], at: usize, w: usize) -> u32
     requires { (at + w ≤ length s.now) × (is_width w ≡ true) }
     ensures { result ≡ number_in (take w (drop at s.now)) }
