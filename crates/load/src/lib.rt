@@ -90,6 +90,7 @@ impl Add for Load {
     }
 }
 
+// Euclid's: it counts no turns, so no `for` fits.
 fn common_divisor(a: u64, b: u64) -> u64
     ensures { result ≡ common a b }
 {

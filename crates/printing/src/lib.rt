@@ -42,7 +42,7 @@ pub fn print_refusal(rt: &impl Print, f: Refusal) -> io::Result<()> {
     println!(rt; "refused {}", number_of(f))
 }
 
-// Both lists of what an order sheet is moved to.
+// Both lists of what an order sheet is moved to. Memory is fixed: a sheet and a list are each the front of an array.
 fn put_lists(order: &[u8], gate: &mut [u8], cell: &mut [u8]) -> Result<(), Refusal> {
     let mut sheet = [0; PAIR_BYTES];
     let mut work = [0; WORK_BYTES];

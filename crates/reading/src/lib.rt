@@ -8,7 +8,8 @@ use std::io;
 use std::io::Read;
 
 // Reads until the buffer is full or the input ends; how many bytes are at the front of the buffer. Where a read fails, what came before
-// it is there too, and nothing more was taken from the input; how many bytes that are is not told.
+// it is there too, and nothing more was taken from the input; how many bytes that are is not told. The turns are not counted: a reader
+// says when it gives nothing more.
 pub fn read_full<R: Read>(input: &mut R, buffer: &mut [u8]) -> io::Result<usize>
     ensures within { IfOk result (λ n. n ≤ length buffer.new) }
     ensures front { IfOk result (λ n. Consumes (R.remaining input.old) (R.remaining input.new) (take n buffer.new)) }

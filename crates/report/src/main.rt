@@ -167,7 +167,8 @@ fn print_checked<F: Read + Drop>(
     Ok(())
 }
 
-// The sheet is checked before anything else is read, and the work buffer then holds the blocks.
+// The sheet is checked before anything else is read, and the work buffer then holds the blocks. Memory is fixed: what a file gives is the
+// front of an array.
 fn print_report<F: Read + Drop>(rt: &impl Print, mut files: Files<F>) -> Result<(), Stop> {
     let mut sheet = [0u8; PAIR_BYTES + 1];
     let mut work = [0u8; WORK_BYTES];

@@ -39,7 +39,7 @@ pub struct Lists {
     own: List,
 }
 
-// The rule for every packet.
+// The rule for every packet. Its action is a number, as C lends it.
 pub fn full(action: u32) -> Rule
     ensures { rule_of result ≡ rule full action }
 {
@@ -176,7 +176,7 @@ impl Lists {
         }
     }
 
-    // How many rules the list has: A, or B where the number is not A's.
+    // How many rules the list has: A, or B where the number is not A's. It is a number as in a request.
     pub(crate) fn count(&self, which: u32) -> usize
         ensures { result < 65536 }
     {

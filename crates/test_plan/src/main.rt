@@ -23,6 +23,7 @@ const SHEETS: [&str; 14] = [
 ];
 
 fn case(rt: &(impl Files + Print), name: &str) -> io::Result<()> {
+    // Memory is fixed: the sheet is the front of an array.
     let mut order = [0u8; ORDER_BYTES + 1];
     let mut file = fs::open(rt, name)?;
     let n = reading::read_full(&mut file, &mut order)?;

@@ -94,6 +94,7 @@ fn print_boxes(rt: &impl Print, sheet: &[u8]) -> io::Result<()> {
     }
 }
 
+// Memory is fixed: the pair sheet is the front of an array.
 fn print_move(rt: &impl Print, order: &Sheet) -> io::Result<()> {
     let mut sheet = [0; PAIR_BYTES];
     let mut work = [0; WORK_BYTES];
