@@ -122,8 +122,9 @@ fn put_fronts(table: &mut [u32], sheet: CheckedSheet<'_>)
     table[FRONTS + gate] = boxes as u32;
 }
 
-// The table of a sheet: its fronts, the rows of A, and those of the cell list.
-fn put_table(table: &mut [u32], sheet: CheckedSheet<'_>)
+// The table of a sheet: its fronts, the rows of A, and those of the cell list. `TabledSheet::new` makes it where it serves one loan; made
+// here, it stays behind when the loan is over.
+pub fn put_table(table: &mut [u32], sheet: CheckedSheet<'_>)
     requires { table_size ≤ length table.old }
     ensures { Tabled sheet.entry.bytes.now sheet.entry.layout table.new }
 {
