@@ -49,42 +49,39 @@ fn add_own(order: &mut Sheet, count: usize)
     add_full(order, count, ALLOW);
 }
 
-// 31 allows of single sources, then 31 full denies.
-fn comb(own: usize) -> Sheet
+// 31 allows of single sources, then 31 full denies. One sheet serves all rows, so that the stack holds one.
+fn comb(order: &mut Sheet, own: usize)
     requires { own < 65536 }
 {
-    let mut order = Sheet::new();
+    *order = Sheet::new();
     order.add_count(62);
-    add_singles(&mut order, 31, 0);
-    add_full(&mut order, 31, DENY);
-    add_own(&mut order, own);
-    order
+    add_singles(order, 31, 0);
+    add_full(order, 31, DENY);
+    add_own(order, own);
 }
 
 // So many allows of single sources, 31 of single destinations, deny all.
-fn grid(sources: u32) -> Sheet
+fn grid(order: &mut Sheet, sources: u32)
     requires { sources ≤ 32 }
 {
-    let mut order = Sheet::new();
+    *order = Sheet::new();
     order.add_count(sources as usize + 32);
-    add_singles(&mut order, sources, 0);
-    add_singles(&mut order, 31, 1);
-    add_full(&mut order, 1, DENY);
-    add_own(&mut order, 1);
-    order
+    add_singles(order, sources, 0);
+    add_singles(order, 31, 1);
+    add_full(order, 1, DENY);
+    add_own(order, 1);
 }
 
 // Ten allows of single values in each of the first three fields, allow all, deny all.
-fn cube() -> Sheet {
-    let mut order = Sheet::new();
+fn cube(order: &mut Sheet) {
+    *order = Sheet::new();
     order.add_count(32);
     for field in 0..3 {
-        add_singles(&mut order, 10, field);
+        add_singles(order, 10, field);
     }
-    add_full(&mut order, 1, ALLOW);
-    add_full(&mut order, 1, DENY);
-    add_own(&mut order, 1);
-    order
+    add_full(order, 1, ALLOW);
+    add_full(order, 1, DENY);
+    add_own(order, 1);
 }
 
 fn print_boxes(rt: &impl Print, sheet: &[u8]) -> io::Result<()> {
@@ -105,14 +102,18 @@ fn print_move(rt: &impl Print, order: &Sheet) -> io::Result<()> {
 }
 
 fn main(rt: HostRuntime) -> io::Result<()> {
+    let mut order = Sheet::new();
     for own in 32..=33 {
+        comb(&mut order, own);
         print!(rt; "31 sources, 31 denies, {own} own rules: ")?;
-        print_move(&rt, &comb(own))?;
+        print_move(&rt, &order)?;
     }
     for sources in 31..=32 {
+        grid(&mut order, sources);
         print!(rt; "{sources} sources, 31 destinations, deny all, 1 own rule: ")?;
-        print_move(&rt, &grid(sources))?;
+        print_move(&rt, &order)?;
     }
+    cube(&mut order);
     print!(rt; "10 values in each of 3 fields, allow all, deny all, 1 own rule: ")?;
-    print_move(&rt, &cube())
+    print_move(&rt, &order)
 }

@@ -212,8 +212,9 @@ fn count_up(n: &mut u32) {
     *n = n.saturating_add(1);
 }
 
+// Compared as a whole: byte by byte this would be half of the program's time.
 fn is_zero(work: &[u8]) -> bool {
-    work.iter().all(|byte| *byte == 0)
+    work == [0; WORK_BYTES].as_slice()
 }
 
 // What the number that C gets says.
