@@ -31,7 +31,9 @@ fn put_pair(sheet: &mut [u8], order: &[u8], groups: usize, draft: &[u8]) -> usiz
 }
 
 // The order sheet read, its groups drafted (6), the room for them tested (7), and the pair sheet written. The draft is local, since what
-// is lent is written only once the move is accepted, and an array with its end beside it, since there is no heap.
+// is lent is written only once the move is accepted, and an array with its end beside it, since there is no heap. Not inlined: so the
+// draft leaves the stack with this call, and does not lie beside that of a check that follows.
+#[inline(never)]
 fn plan(order: &[u8], sheet: &mut [u8], work: &mut [u8]) -> Answer
     requires { (pair_size ≤ length sheet.old) × (work_size ≤ length work.old) }
     ensures { Planned order.now sheet.old work.old result sheet.new work.new }
